@@ -1,0 +1,167 @@
+-- Laws of cells, programming and erasing: callers use these and never the text of the definitions.
+-- In order: Booleans; cells; programming; erasing; the erased test.
+-- Not here: laws of lists (lib.Seq, lib.ListN) and of bits (lib.Bits). Assumes nothing.
+use Prim.Native.Nat.{ℕ, zero, suc, _+_, _-_, _*_, _^_, _%_, _/_, _<_, _≤_}
+use mathlib.Core.Path.{_≡_, refl, sym, ap, ap₂, _∙_}
+use mathlib.Core.Bool.{Bool, true, false, cond, _&&_}
+use mathlib.Core.List.{List, [], _∷_, _++_, append-nil}
+use native.Mathlib.Numerals.{add-one}
+use native.Mathlib.Omega.{arith}
+use lib.Bits.{bitAnd, and-le-l, and-le-r, and-mask}
+use lib.Dec.{eqb, ltb, leb}
+use lib.ListN.{length, getD, set, drop, replicate, length-set, length-replicate, drop-of-length-le}
+use lib.Seq.{drop-cons, drop-length}
+use borrow.Author.Fill.{fill-more}
+use borrow.Author.Tests.{eqb-true, eqb-false, ltb-true, eq-eqb, ne-eqb, lt-ltb, le-ltb}
+use Rattle.flash.specs.declared.Cell.{Cell}
+use Rattle.flash.specs.declared.Cell.the-variants.{Holds, Outside}
+use Rattle.flash.specs.Flash.{isCell, cellAt, cellOf, stored, clears, fits, Programming, programmed, erasure, isErased}
+
+-- both sides of a conjunction
+pub and-left : (a b : Bool) → (a && b) ≡ true → a ≡ true
+and-left true b e = refl
+and-left false b e = e
+
+pub and-right : (a b : Bool) → (a && b) ≡ true → b ≡ true
+and-right true b e = e
+and-right false b e = cc
+
+and-assoc : (a b c : Bool) → ((a && b) && c) ≡ (a && (b && c))
+and-assoc true b c = refl
+and-assoc false b c = refl
+
+and-true : (a : Bool) → (a && true) ≡ a
+and-true true = refl
+and-true false = refl
+
+-- the byte after an even place inside is where a cell ends
+pub cell-here : (l : List ℕ) (i : ℕ) → i % 2 ≡ 0 → i + 1 < length l → cellOf l i ≡ Holds (cellAt l i)
+unfolding cellOf isCell
+cell-here l i e h = simp (eq-eqb _ _ e, lt-ltb _ _ h)
+
+pub cell-odd : (l : List ℕ) (i : ℕ) → (i % 2 ≡ 0 → ⊥) → cellOf l i ≡ Outside
+unfolding cellOf isCell
+cell-odd l i h = simp (ne-eqb _ _ h)
+
+pub cell-past : (l : List ℕ) (i : ℕ) → i % 2 ≡ 0 → length l ≤ i + 1 → cellOf l i ≡ Outside
+unfolding cellOf isCell
+cell-past l i e h = simp (eq-eqb _ _ e, le-ltb _ _ h)
+
+pub cell-inside : (l : List ℕ) (i : ℕ) → isCell l i ≡ true → i + 1 < length l
+unfolding isCell
+cell-inside l i e = ltb-true (i + 1) (length l) (and-right (eqb (i % 2) 0) (ltb (i + 1) (length l)) e)
+
+-- from the answer of a look at a cell back to the cell
+pub holds-cell : (l : List ℕ) (i v : ℕ) → cellOf l i ≡ Holds v → (isCell l i ≡ true) × (cellAt l i ≡ v)
+unfolding cellOf
+holds-cell l i v = go (isCell l i) refl
+  where
+    go : (t : Bool) → isCell l i ≡ t → cond t (Holds (cellAt l i)) Outside ≡ Holds v → (isCell l i ≡ true) × (cellAt l i ≡ v)
+    go true q e = (q, cc)
+    go false q e = (cc, cc)
+
+pub outside-cell : (l : List ℕ) (i : ℕ) → cellOf l i ≡ Outside → isCell l i ≡ false
+unfolding cellOf
+outside-cell l i = go (isCell l i) refl
+  where
+    go : (t : Bool) → isCell l i ≡ t → cond t (Holds (cellAt l i)) Outside ≡ Outside → isCell l i ≡ false
+    go true q e = cc
+    go false q e = q
+
+-- a step is made exactly if it fits
+pub made : (l : List ℕ) (i v : ℕ) → fits l i v ≡ true
+    → programmed l i v ≡ (record { number = 0; bytes = stored l i (bitAnd (cellAt l i) v) })
+unfolding programmed
+made l i v e = simp e
+
+pub unfit : (l : List ℕ) (i v : ℕ) → fits l i v ≡ false → programmed l i v ≡ (record { number = 6; bytes = l })
+unfolding programmed
+unfit l i v e = simp e
+
+-- the parts of the test, from a look at the cell
+pub fits-cell : (l : List ℕ) (i v old : ℕ) → cellOf l i ≡ Holds old → fits l i v ≡ clears old v
+unfolding fits
+fits-cell l i v old e = simp (holds-cell l i old e .0, holds-cell l i old e .1)
+
+pub fits-nowhere : (l : List ℕ) (i v : ℕ) → cellOf l i ≡ Outside → fits l i v ≡ false
+unfolding fits
+fits-nowhere l i v e = simp (outside-cell l i e)
+
+-- the three ways a step ends, from a look at the cell and the test of its bits
+pub step-nowhere : (l : List ℕ) (i v : ℕ) → cellOf l i ≡ Outside
+    → _≡_ {A = Programming} (record { number = 6; bytes = l }) (programmed l i v)
+step-nowhere l i v e = sym (unfit l i v (fits-nowhere l i v e))
+
+pub step-unfit : (l : List ℕ) (i v old : ℕ) → cellOf l i ≡ Holds old → (bitAnd old v ≡ v → ⊥)
+    → _≡_ {A = Programming} (record { number = 6; bytes = l }) (programmed l i v)
+step-unfit l i v old e h = sym (unfit l i v (fits-cell l i v old e ∙ ne-eqb (bitAnd old v) v h))
+
+pub step-made : (l : List ℕ) (i v old : ℕ) → cellOf l i ≡ Holds old → bitAnd old v ≡ v
+    → _≡_ {A = Programming} (record { number = 0; bytes = stored l i (bitAnd old v) }) (programmed l i v)
+step-made l i v old e h =
+    sym (made l i v (fits-cell l i v old e ∙ eq-eqb (bitAnd old v) v h)
+    ∙ ap (λ (x : ℕ). record { number = 0; bytes = stored l i (bitAnd x v) }) (holds-cell l i old e .1))
+
+pub holds-inside : (l : List ℕ) (i v : ℕ) → cellOf l i ≡ Holds v → i + 1 < length l
+holds-inside l i v e = cell-inside l i (holds-cell l i v e .0)
+
+pub length-stored : (l : List ℕ) (i v : ℕ) → length (stored l i v) ≡ length l
+unfolding stored
+length-stored l i v = simp length-set
+
+-- erasing keeps the length
+pub length-erasure : (l : List ℕ) → length (erasure l) ≡ length l
+unfolding erasure
+length-erasure l = length-replicate (length l) 255
+
+-- a list of FF passes the erased test, and no other does
+pub replicate-erased : (n : ℕ) → isErased (replicate n 255) ≡ true
+unfolding isErased
+replicate-erased zero = refl
+replicate-erased (suc n) = replicate-erased n
+
+pub erased-erasure : (l : List ℕ) → isErased (erasure l) ≡ true
+unfolding erasure
+erased-erasure l = replicate-erased (length l)
+
+pub erased-is-erasure : (l : List ℕ) → isErased l ≡ true → l ≡ erasure l
+unfolding isErased erasure
+erased-is-erasure [] e = refl
+erased-is-erasure (x ∷ xs) e =
+    ap₂ _∷_ (eqb-true x 255 (and-left (eqb x 255) (isErased xs) e))
+    (erased-is-erasure xs (and-right (eqb x 255) (isErased xs) e))
+
+-- ---- what the loops keep
+-- erasing: the bytes before i are FF, the others as they were
+pub fill-step : (l₀ l : List ℕ) (i : ℕ) → i < length l₀ → l ≡ replicate i 255 ++ drop i l₀
+    → set l i 255 ≡ replicate (i + 1) 255 ++ drop (i + 1) l₀
+fill-step l₀ l i h e = ap (λ (k : List ℕ). set k i 255) e ∙ fill-more i 255 l₀ h
+
+pub filled : (l₀ l : List ℕ) (i : ℕ) → i ≤ length l₀ → length l₀ ≤ i → l ≡ replicate i 255 ++ drop i l₀ → l ≡ erasure l₀
+unfolding erasure
+filled l₀ l i h k e =
+    let n : i ≡ length l₀ = omega arith in
+    e ∙ simp (n, drop-length, append-nil)
+
+-- the erased test: a byte is FF exactly if it keeps every bit of FF
+full-and : (a b : ℕ) → a ≤ 255 → b ≤ 255 → eqb (bitAnd a b) 255 ≡ (eqb a 255 && eqb b 255)
+full-and a b ha hb = go (eqb a 255) (eqb b 255) refl refl
+  where
+    go : (s t : Bool) → eqb a 255 ≡ s → eqb b 255 ≡ t → eqb (bitAnd a b) 255 ≡ (s && t)
+    go true true p q = simp (eqb-true a 255 p, eqb-true b 255 q)
+    go true false p q = ne-eqb (bitAnd a b) 255 (λ e. eqb-false b 255 q (omega (arith, and-le-r a b)))
+    go false t p q = ne-eqb (bitAnd a b) 255 (λ e. eqb-false a 255 p (omega (arith, and-le-l a b)))
+
+-- one more byte folded in says of the whole what the bytes before it and those after it say
+pub fold-step : (l : List ℕ) (i all : ℕ) → i < length l → all ≤ 255 → getD l i 0 ≤ 255
+    → isErased l ≡ (eqb all 255 && isErased (drop i l))
+    → isErased l ≡ (eqb (bitAnd all (getD l i 0)) 255 && isErased (drop (i + 1) l))
+unfolding isErased
+fold-step l i all h ha hb e =
+    e ∙ rw (drop-cons l i 0 h, add-one, full-and all (getD l i 0) ha hb, and-assoc)
+
+pub folded : (l : List ℕ) (i all : ℕ) → length l ≤ i → isErased l ≡ (eqb all 255 && isErased (drop i l))
+    → eqb all 255 ≡ isErased l
+unfolding isErased
+folded l i all h e =
+    sym (e ∙ ap (λ (k : List ℕ). eqb all 255 && isErased k) (drop-of-length-le l h) ∙ and-true (eqb all 255))

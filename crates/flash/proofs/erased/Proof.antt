@@ -1,0 +1,61 @@
+-- `flash::erased` meets its contract. The loop's invariant: the page is erased exactly if the bytes before i, ANDed, are FF
+-- and the bytes from i on are erased. Assumes nothing.
+use Prim.Native.Nat.{_≤_, _-_}
+use mathlib.Core.Bool.{_&&_}
+use mathlib.Core.Path.{_≡_, refl}
+use native.Mathlib.Omega.{arith}
+use lib.Bits.{and-le-l}
+use lib.Dec.{eqb}
+use lib.ListN.{length, drop, getD}
+use borrow.Author.Needs.{needs}
+use Rattle.flash.specs.Flash.{isErased}
+use Rattle.flash.proofs.Laws.{fold-step, folded}
+use Rattle.flash.proofs.erased.Statement.{statement}
+use Rattle.flash.proofs.erased.Tie as tie
+use Rattle.flash.proofs.erased.Reads as reads
+use Rattle.flash.proofs.erased.Lts as lts
+
+abbrev Inv-loop : tie.InvT-loop
+Inv-loop page n all₀ i₀ all i =
+    (i ≤ length page) × ((all ≤ 255) × (isErased page ≡ (eqb all 255 && isErased (drop i page))))
+
+abbrev μ-loop : tie.MeasureT-loop
+μ-loop page n all₀ i₀ all i = n - i
+
+-- src/lib.rt:88:5
+loop-holds : tie.Need-loop-holds Inv-loop μ-loop
+loop-holds c = (search needs, (search needs, refl))
+
+-- src/lib.rt:89:21
+shared-slice-read-all : tie.Need-shared-slice-read-all Inv-loop μ-loop
+shared-slice-read-all c = search needs
+
+-- src/lib.rt:90:9
+add-i : tie.Need-add-i Inv-loop μ-loop
+add-i c = search needs
+
+-- src/lib.rt:88:5
+loop-less : tie.Need-loop-less Inv-loop μ-loop
+loop-less c = search needs
+
+-- src/lib.rt:88:5
+loop-again : tie.Need-loop-again Inv-loop μ-loop
+loop-again c =
+    let l = c .before .before .before .args .page .now in
+    let i = c .before .before .loop .i in
+    let inv = c .before .before .loop .inv in (
+      search needs,
+      (
+        omega (arith, and-le-l (c .before .before .loop .all) (getD l i 0)),
+        fold-step l i _ (search needs) (inv .1 .0) (omega (arith, c .shared-slice-known .given i)) (inv .1 .1),
+      ),
+    )
+
+-- src/lib.rt:82:1
+returns : tie.Need-returns Inv-loop μ-loop
+returns c = folded _ (c .before .loop .i) (c .before .loop .all) (search needs) (c .before .loop .inv .1 .1)
+
+pub erased-spec : {M : Type 1} → statement M
+erased-spec =
+    tie.close
+    (tie.spec Inv-loop μ-loop loop-holds shared-slice-read-all add-i loop-less loop-again returns)

@@ -1,0 +1,84 @@
+-- Management words, and which page is live (document 01, "Pages, cells" and "Which page is live").
+-- In order: the word of a page; the table of lines; the look-up; the line's number.
+-- Not here: offsets (Offsets.antt). Laws: proofs/Laws.antt. Assumes nothing.
+use Prim.Native.Nat.{ℕ, _+_, _*_}
+use mathlib.Core.Bool.{Bool, cond, _&&_}
+use mathlib.Core.List.{List, [], _∷_}
+use lib.Dec.{eqb}
+use lib.ListN.{getD}
+use Rattle.pages.specs.declared.Side.{Side}
+use Rattle.pages.specs.declared.Side.the-variants.{Left, Right}
+use Rattle.pages.specs.declared.State.{State}
+use Rattle.pages.specs.declared.State.the-variants.{S0, S1, S2, S3, S5, S6, S7, S8, S9, S10}
+use Rattle.pages.specs.declared.Live.{Live}
+use Rattle.pages.specs.declared.Live.the-variants.{Nowhere, On}
+use Rattle.pages.specs.declared.Status.{Status}
+use Rattle.pages.specs.declared.Row.{Row}
+
+-- "As one 32-bit word Valid is the lowest byte"
+abbrev pub wordFrom : ℕ → ℕ → ℕ → ℕ → ℕ
+wordFrom valid active dead spare = valid + active * 256 + dead * 65536 + spare * 16777216
+
+-- "Bytes 0 to 3 of a page are management: Valid, Active, Dead, Spare."
+unfoldable pub wordOf : List ℕ → ℕ
+wordOf page = wordFrom (getD page 0 0) (getD page 1 0) (getD page 2 0) (getD page 3 0)
+
+abbrev pub row : ℕ → ℕ → State → Side → Row
+row l r s v = record { left = l; right = r; state = s; live = v }
+
+-- the table of "Which page is live"; S1 is lines 1 and 4, which hold the same words
+abbrev pub table : List Row
+table =
+    row 0xFFFF0000 0xFFFFFFFF S1 Left
+    ∷ row 0xFFFF0000 0xFF00FFFF S2 Left
+    ∷ row 0xFFFF0000 0xFF000000 S3 Left
+    ∷ row 0xFFFF0000 0xFFFFFF00 S5 Right
+    ∷ row 0xFF000000 0xFFFFFF00 S6 Right
+    ∷ row 0xFF000000 0xFFFF0000 S7 Right
+    ∷ row 0xFFFFFFFF 0xFFFF0000 S8 Right
+    ∷ row 0xFFFFFF00 0xFFFF0000 S9 Left
+    ∷ row 0xFFFFFF00 0xFF000000 S10 Left
+    ∷ []
+
+-- the row holds this pair of words
+abbrev pub hits : Row → ℕ → ℕ → Bool
+hits x l r = eqb (x .left) l && eqb (x .right) r
+
+-- the state and live side of a row that holds the words, else those given
+abbrev pub first : Row → ℕ → ℕ → Status → Status
+first x l r rest = cond (hits x l r) (record { state = x .state; live = On (x .live) }) rest
+
+-- the state and live side of the row that holds a pair of words; "0: any other pair", none live
+unfoldable pub look : List Row → ℕ → ℕ → Status
+look [] l r = record { state = S0; live = Nowhere }
+look (x ∷ xs) l r = first x l r (look xs l r)
+
+-- the state of two pages, and which is live
+unfoldable pub statusOf : List ℕ → List ℕ → Status
+statusOf left right = look table (wordOf left) (wordOf right)
+
+-- document 01's line number for each state
+abbrev pub lineOf : State → ℕ
+lineOf S0 = 0
+lineOf S1 = 1
+lineOf S2 = 2
+lineOf S3 = 3
+lineOf S5 = 5
+lineOf S6 = 6
+lineOf S7 = 7
+lineOf S8 = 8
+lineOf S9 = 9
+lineOf S10 = 10
+
+-- the live side of each state, as the table has it
+unfoldable pub liveOf : State → Live
+liveOf S0 = Nowhere
+liveOf S1 = On Left
+liveOf S2 = On Left
+liveOf S3 = On Left
+liveOf S5 = On Right
+liveOf S6 = On Right
+liveOf S7 = On Right
+liveOf S8 = On Right
+liveOf S9 = On Left
+liveOf S10 = On Left

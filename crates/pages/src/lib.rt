@@ -1,0 +1,207 @@
+// Pages: the management word, the state of a pair of pages and which page is live, and the two
+// kinds of offset.
+//
+// A page is P bytes. Bytes 0 to 3 are management: Valid, Active, Dead, Spare, one 32-bit word with
+// Valid lowest. Bytes 4 to P - 1 are the image. What each answer means is in specs/Pages.antt.
+ghost use mathlib.Core.Path.{_≡_};
+ghost use lib.ListN.{getD};
+ghost use Rattle.pages.specs.Pages.{wordOf, wordFrom, first, look, table, statusOf};
+ghost use Rattle.pages.specs.Offsets.{toImage};
+
+// How many bytes of a page are management.
+pub const MANAGEMENT_SIZE: u32 = 4;
+
+// The least and the greatest length of a page, in bytes.
+pub const MIN_PAGE: usize = 8;
+
+pub const MAX_PAGE: usize = 4096;
+
+pub enum Side {
+    Left,
+    Right,
+}
+
+// The state of a pair of management words: a line of document 01, under its number. S1 is the lines
+// 1 and 4, which hold the same words; S0 is every pair that is in no other line.
+pub enum State {
+    S0,
+    S1,
+    S2,
+    S3,
+    S5,
+    S6,
+    S7,
+    S8,
+    S9,
+    S10,
+}
+
+// Which page is live, if any.
+pub enum Live {
+    Nowhere,
+    On(Side),
+}
+
+pub struct Status {
+    pub state: State,
+    pub live: Live,
+}
+
+// A pair of management words with its state and the live side.
+pub struct Row {
+    pub left: u32,
+    pub right: u32,
+    pub state: State,
+    pub live: Side,
+}
+
+const TABLE: [Row; 9] = [
+    Row {
+        left: 0xFFFF0000,
+        right: 0xFFFFFFFF,
+        state: State::S1,
+        live: Side::Left,
+    },
+    Row {
+        left: 0xFFFF0000,
+        right: 0xFF00FFFF,
+        state: State::S2,
+        live: Side::Left,
+    },
+    Row {
+        left: 0xFFFF0000,
+        right: 0xFF000000,
+        state: State::S3,
+        live: Side::Left,
+    },
+    Row {
+        left: 0xFFFF0000,
+        right: 0xFFFFFF00,
+        state: State::S5,
+        live: Side::Right,
+    },
+    Row {
+        left: 0xFF000000,
+        right: 0xFFFFFF00,
+        state: State::S6,
+        live: Side::Right,
+    },
+    Row {
+        left: 0xFF000000,
+        right: 0xFFFF0000,
+        state: State::S7,
+        live: Side::Right,
+    },
+    Row {
+        left: 0xFFFFFFFF,
+        right: 0xFFFF0000,
+        state: State::S8,
+        live: Side::Right,
+    },
+    Row {
+        left: 0xFFFFFF00,
+        right: 0xFFFF0000,
+        state: State::S9,
+        live: Side::Left,
+    },
+    Row {
+        left: 0xFFFFFF00,
+        right: 0xFF000000,
+        state: State::S10,
+        live: Side::Left,
+    },
+];
+
+// The state and live side of a row that holds the words, else what the rows after it gave.
+fn pick(row: Row, left: u32, right: u32, rest: Status) -> Status
+    ensures { λ r. ⌜ r ≡ first row left right rest ⌝ }
+{
+    if row.left != left {
+        return rest;
+    }
+    if row.right != right {
+        return rest;
+    }
+    let state = row.state;
+    let live = row.live;
+    Status {
+        state: state,
+        live: Live::On(live),
+    }
+}
+
+// The state of a pair of words, and its live side: those of the table's row with these words, or S0.
+// It goes from the last row to the first, so that the table needs no place in memory.
+fn look_up(left: u32, right: u32) -> Status
+    ensures { λ r. ⌜ r ≡ look table left right ⌝ }
+{
+    let rows = TABLE;
+    let mut found = Status {
+        state: State::S0,
+        live: Live::Nowhere,
+    };
+    let mut i: usize = 9;
+    while 0 < i {
+        i -= 1;
+        found = pick(rows[i], left, right, found);
+    }
+    found
+}
+
+// The byte at a place, or 0 past the end.
+fn byte_at(page: &[u8], at: usize) -> u8
+    ensures { λ r. ⌜ r ≡ getD (now (page .entry)) at 0 ⌝ }
+{
+    if at < page.len() { page[at] } else { 0 }
+}
+
+fn joined(valid: u8, active: u8, dead: u8, spare: u8) -> u32
+    ensures { λ r. ⌜ r ≡ wordFrom valid active dead spare ⌝ }
+{
+    valid as u32 + active as u32 * 256 + dead as u32 * 65536 + spare as u32 * 16777216
+}
+
+// The management word of a page. Bytes that a shorter slice lacks count as 0.
+pub fn word(page: &[u8]) -> u32
+    ensures { λ r. ⌜ r ≡ wordOf (now (page .entry)) ⌝ }
+{
+    joined(
+        byte_at(page, 0),
+        byte_at(page, 1),
+        byte_at(page, 2),
+        byte_at(page, 3),
+    )
+}
+
+// The state of two pages, and which of them is live.
+pub fn status_of(left: &[u8], right: &[u8]) -> Status
+    ensures { λ r. ⌜ r ≡ statusOf (now (left .entry)) (now (right .entry)) ⌝ }
+{
+    look_up(word(left), word(right))
+}
+
+// An offset from byte 0 of a page: what requests give.
+pub struct PageOffset(pub u32);
+
+// An offset from the first byte of the image.
+pub struct ImageOffset(pub u32);
+
+// Where a page offset lies: in the management bytes, or at or after the image's first byte.
+pub enum InImage {
+    Management,
+    At(ImageOffset),
+}
+
+impl PageOffset {
+    // The one place that turns a page offset into an image offset.
+    pub fn to_image(self) -> InImage
+        ensures { λ r. ⌜ r ≡ toImage self ⌝ }
+    {
+        let offset = self.0;
+        if offset < MANAGEMENT_SIZE {
+            return InImage::Management;
+        }
+        let inside = offset - MANAGEMENT_SIZE;
+        InImage::At(ImageOffset(inside))
+    }
+}

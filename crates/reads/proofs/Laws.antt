@@ -1,0 +1,162 @@
+-- Laws of the two reads.
+-- In order: where a read finds its bytes; what follows of its number, of the part and of the output.
+-- Not here: laws of numbers 1 to 4 (the crate requests) and of flash (flash). Assumes nothing.
+use Prim.Native.Nat.{ℕ, _+_, _-_, _≤_}
+use mathlib.Core.Path.{_≡_, refl, sym, ap, _∙_}
+use mathlib.Core.Bool.{Bool, true, false, cond}
+use mathlib.Core.List.{List, [], _++_, append-nil}
+use native.Mathlib.Nat.{add-sub-cancel-left}
+use native.Mathlib.Omega.{arith}
+use lib.Dec.{eqb}
+use lib.ListN.{length, take, drop, length-drop, length-take}
+use lib.Seq.{take-length, drop-length, length-take-le}
+use borrow.Author.Tests.{eq-eqb, ne-eqb}
+use Rattle.flash.specs.Flash.{erasure}
+use Rattle.pages.specs.declared.Side.{Side}
+use Rattle.pages.specs.declared.Side.the-variants.{Left, Right}
+use Rattle.pages.specs.declared.Live.{Live}
+use Rattle.pages.specs.declared.Live.the-variants.{Nowhere, On}
+use Rattle.pages.specs.Pages.{statusOf}
+use Rattle.requests.specs.declared.Refusal.{Refusal}
+use Rattle.requests.specs.declared.Refusal.the-variants.{PageLength, OddRequest, InManagement, PastEnd}
+use Rattle.requests.specs.Numbers.{numberOf, requestNumber}
+use Rattle.requests.proofs.Laws.{Legal, legal, legal-then, refused-first, never-none}
+use Rattle.reads.specs.Reads.{
+  liveNumber,
+  readNumber,
+  sidePage,
+  livePage,
+  readPart,
+  outputAfter,
+  Filling,
+  filled,
+  Located,
+  located,
+}
+
+-- ---- where a read finds its bytes, from the check of the request and the live side
+at-number : (l r : List ℕ) (o n k : ℕ) (live : Live) → k ≡ readNumber l r o n
+    → live ≡ cond (eqb (readNumber l r o n) 0) (statusOf l r .live) Nowhere
+    → _≡_ {A = Located} (record { number = k; live = live }) (located l r o n)
+unfolding located
+at-number l r o n k live p q = λ i. record { number = p i; live = q i }
+
+pub found-refused : (l r : List ℕ) (o n : ℕ) (why : Refusal) → numberOf why ≡ requestNumber (length l) (length r) o n 0
+    → _≡_ {A = Located} (record { number = numberOf why; live = Nowhere }) (located l r o n)
+unfolding readNumber
+found-refused l r o n why e =
+    let k : numberOf why ≡ readNumber l r o n = refused-first (length l) (length r) o n (liveNumber (statusOf l r .live)) why e in
+    at-number l r o n (numberOf why) Nowhere k
+    (sym (simp (ne-eqb (readNumber l r o n) 0 (λ z. never-none why (k ∙ z)))))
+
+-- a legal read has number 5 or none
+legal-number : (l r : List ℕ) (o n : ℕ) (v : Live) → requestNumber (length l) (length r) o n 0 ≡ 0 → statusOf l r .live ≡ v
+    → readNumber l r o n ≡ liveNumber v
+unfolding readNumber
+legal-number l r o n v e h = legal-then (length l) (length r) o n (liveNumber (statusOf l r .live)) e ∙ ap liveNumber h
+
+pub found-none : (l r : List ℕ) (o n : ℕ) → requestNumber (length l) (length r) o n 0 ≡ 0 → statusOf l r .live ≡ Nowhere
+    → _≡_ {A = Located} (record { number = 5; live = Nowhere }) (located l r o n)
+found-none l r o n e h =
+    let k = legal-number l r o n Nowhere e h in
+    at-number l r o n 5 Nowhere (sym k) (sym (simp k))
+
+pub found-on : (l r : List ℕ) (o n : ℕ) (s : Side) → requestNumber (length l) (length r) o n 0 ≡ 0 → statusOf l r .live ≡ On s
+    → _≡_ {A = Located} (record { number = 0; live = On s }) (located l r o n)
+found-on l r o n s e h =
+    let k = legal-number l r o n (On s) e h in
+    at-number l r o n 0 (On s) (sym k) (sym (simp (k, h)))
+
+-- ---- what follows
+never-five : (why : Refusal) → numberOf why ≡ 5 → ⊥
+never-five PageLength e = omega (arith, e)
+never-five OddRequest e = omega (arith, e)
+never-five InManagement e = omega (arith, e)
+never-five PastEnd e = omega (arith, e)
+
+pub found-number : (l r : List ℕ) (o n : ℕ) (f : Located) → f ≡ located l r o n → f .number ≡ readNumber l r o n
+unfolding located
+found-number l r o n f e = ap (λ (x : Located). x .number) e
+
+-- a found page is the live one, and the request is legal
+on-number : (l r : List ℕ) (o n : ℕ) (s : Side) → _≡_ {A = Located} (record { number = 0; live = On s }) (located l r o n)
+    → readNumber l r o n ≡ 0
+on-number l r o n s e = sym (found-number l r o n (record { number = 0; live = On s }) e)
+
+on-live : (l r : List ℕ) (o n : ℕ) (s : Side) → _≡_ {A = Located} (record { number = 0; live = On s }) (located l r o n)
+    → statusOf l r .live ≡ On s
+unfolding located
+on-live l r o n s e =
+    sym (ap (λ (x : Located). x .live) e ∙ (simp (on-number l r o n s e)))
+
+pub on-legal : (l r : List ℕ) (o n : ℕ) (s : Side) → _≡_ {A = Located} (record { number = 0; live = On s }) (located l r o n)
+    → Legal (length l) (length r) o n
+unfolding readNumber
+on-legal l r o n s e = legal (length l) (length r) o n (liveNumber (statusOf l r .live)) (on-number l r o n s e) .0
+
+-- no part where a number is given; else the asked bytes of that page
+pub no-part : (l r : List ℕ) (o n : ℕ) (f : Located) → f ≡ located l r o n → (f .number ≡ 0 → ⊥) → [] ≡ readPart l r o n
+unfolding readPart
+no-part l r o n f e h =
+    sym (simp (ne-eqb (readNumber l r o n) 0 (λ z. h (found-number l r o n f e ∙ z))))
+
+pub on-part : (l r : List ℕ) (o n : ℕ) (s : Side) → _≡_ {A = Located} (record { number = 0; live = On s }) (located l r o n)
+    → take n (drop o (sidePage s l r)) ≡ readPart l r o n
+unfolding readPart
+on-part l r o n s e = sym (simp (on-number l r o n s e, on-live l r o n s e))
+
+pub part-bytes : (l r : List ℕ) (o n : ℕ) (s : Side) → _≡_ {A = Located} (record { number = 0; live = On s }) (located l r o n)
+    → take (o + n - o) (drop o (sidePage s l r)) ≡ readPart l r o n
+part-bytes l r o n s e = rw (add-sub-cancel-left o n) (on-part l r o n s e)
+
+-- a page of a legal request holds the asked bytes
+side-length : (l r : List ℕ) (s : Side) → length l ≡ length r → length (sidePage s l r) ≡ length l
+side-length l r Left e = refl
+side-length l r Right e = sym e
+
+pub part-length : (l r : List ℕ) (o n : ℕ) (s : Side) → _≡_ {A = Located} (record { number = 0; live = On s }) (located l r o n)
+    → length (take (o + n - o) (drop o (sidePage s l r))) ≡ n
+part-length l r o n s e =
+    let h = on-legal l r o n s e in
+    let k : length (sidePage s l r) ≡ length l = side-length l r s (h .same) in
+    rw (add-sub-cancel-left o n) (length-take-le n (drop o (sidePage s l r)) (simp length-drop (omega arith)))
+
+-- a copy of as many bytes as the output has is those bytes
+copied : (src out : List ℕ) → length src ≡ length out → take (length src) src ++ drop (length src) out ≡ src
+copied src out e =
+    let d : drop (length src) out ≡ [] = ap (λ (k : ℕ). drop k out) e ∙ drop-length out in
+    simp (take-length, d, append-nil)
+
+-- ---- the output after each answer
+filling : (l r : List ℕ) (o k : ℕ) (out bytes : List ℕ) → k ≡ readNumber l r o (length out)
+    → bytes ≡ outputAfter k (readPart l r o (length out)) out
+    → _≡_ {A = Filling} (record { number = k; bytes = bytes }) (filled l r o out)
+unfolding filled
+filling l r o k out bytes p q =
+    λ i. record { number = p i; bytes = (q ∙ ap (λ (x : ℕ). outputAfter x (readPart l r o (length out)) out) p) i }
+
+pub kept : (l r : List ℕ) (o : ℕ) (out : List ℕ) (why : Refusal)
+    → _≡_ {A = Located} (record { number = numberOf why; live = Nowhere }) (located l r o (length out))
+    → _≡_ {A = Filling} (record { number = numberOf why; bytes = out }) (filled l r o out)
+unfolding outputAfter
+kept l r o out why e =
+    filling l r o (numberOf why) out out
+    (found-number l r o (length out) (record { number = numberOf why; live = Nowhere }) e)
+    (sym (simp (ne-eqb (numberOf why) 0 (never-none why), ne-eqb (numberOf why) 5 (never-five why))))
+
+pub blank : (l r : List ℕ) (o : ℕ) (out bytes : List ℕ)
+    → _≡_ {A = Located} (record { number = 5; live = Nowhere }) (located l r o (length out)) → bytes ≡ erasure out
+    → _≡_ {A = Filling} (record { number = 5; bytes = bytes }) (filled l r o out)
+unfolding outputAfter
+blank l r o out bytes e h =
+    filling l r o 5 out bytes (found-number l r o (length out) (record { number = 5; live = Nowhere }) e) h
+
+pub given : (l r : List ℕ) (o : ℕ) (s : Side) (out src bytes : List ℕ)
+    → _≡_ {A = Located} (record { number = 0; live = On s }) (located l r o (length out))
+    → src ≡ take (o + length out - o) (drop o (sidePage s l r))
+    → bytes ≡ take (length src) src ++ drop (length src) out
+    → _≡_ {A = Filling} (record { number = 0; bytes = bytes }) (filled l r o out)
+unfolding outputAfter
+given l r o s out src bytes e p q =
+    filling l r o 0 out bytes (found-number l r o (length out) (record { number = 0; live = On s }) e)
+    (q ∙ copied src out (ap length p ∙ part-length l r o (length out) s e) ∙ p ∙ part-bytes l r o (length out) s e)

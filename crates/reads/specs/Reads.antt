@@ -1,0 +1,82 @@
+-- The two reads (document 01, "Reading") and their numbers ("Numbers the board gives back": 1 to 4, then 5).
+-- In order: the number of each answer; the numbers of a read; the part handed back; the output filled; where a read finds its bytes.
+-- Not here: numbers 1 to 4 (the crate requests), which page is live (pages). Laws: proofs/Laws.antt. Assumes nothing.
+use Prim.Native.Nat.{ℕ}
+use mathlib.Core.Bool.{Bool, cond}
+use mathlib.Core.List.{List, []}
+use lib.Dec.{eqb}
+use lib.ListN.{length, take, drop}
+use Rattle.flash.specs.Flash.{erasure}
+use Rattle.pages.specs.declared.Side.{Side}
+use Rattle.pages.specs.declared.Side.the-variants.{Left, Right}
+use Rattle.pages.specs.declared.Live.{Live}
+use Rattle.pages.specs.declared.Live.the-variants.{Nowhere, On}
+use Rattle.pages.specs.Pages.{statusOf}
+use Rattle.requests.specs.Numbers.{numberOf, requestNumber}
+use Rattle.reads.specs.declared.Reading as R
+use Rattle.reads.specs.declared.Reading.{Reading}
+use Rattle.reads.specs.declared.Found as F
+use Rattle.reads.specs.declared.Found.{Found}
+
+-- document 01's number for each answer of a read; 0 where the bytes are given
+abbrev pub numberIn : Reading → ℕ
+numberIn R.the-variants.Given = 0
+numberIn (R.the-variants.Refused why) = numberOf why
+numberIn R.the-variants.NoLive = 5
+
+-- 5: "a read, and the pair is line 0"
+abbrev pub liveNumber : Live → ℕ
+liveNumber Nowhere = 5
+liveNumber (On s) = 0
+
+-- the number of a read: 1 to 4, then 5
+unfoldable pub readNumber : List ℕ → List ℕ → ℕ → ℕ → ℕ
+readNumber l r o n = requestNumber (length l) (length r) o n (liveNumber (statusOf l r .live))
+
+-- the page on a side
+abbrev pub sidePage : Side → List ℕ → List ℕ → List ℕ
+sidePage Left l r = l
+sidePage Right l r = r
+
+-- the live page, or nothing
+abbrev pub livePage : Live → List ℕ → List ℕ → List ℕ
+livePage Nowhere l r = []
+livePage (On s) l r = sidePage s l r
+
+-- the first read: "the asked part of the live page itself", counted from byte 0 of the page; "empty on every refusal"
+unfoldable pub readPart : List ℕ → List ℕ → ℕ → ℕ → List ℕ
+readPart l r o n = cond (eqb (readNumber l r o n) 0) (take n (drop o (livePage (statusOf l r .live) l r))) []
+
+-- what a lent output holds after a number: the asked bytes where none is given, FF after 5, else what it held
+unfoldable pub outputAfter : ℕ → List ℕ → List ℕ → List ℕ
+outputAfter number asked out = cond (eqb number 0) asked (cond (eqb number 5) (erasure out) out)
+
+-- a copying read's number (0: none) and its output afterwards
+pub record Filling : Type 0 where
+  pub number : ℕ
+  pub bytes : List ℕ
+
+-- the second read: "the length asked for is the output's own"
+unfoldable pub filled : List ℕ → List ℕ → ℕ → List ℕ → Filling
+filled l r o out =
+    record {
+      number = readNumber l r o (length out);
+      bytes = outputAfter (readNumber l r o (length out)) (readPart l r o (length out)) out;
+    }
+
+-- where a read finds its bytes: its number, and the live side where there is none
+pub record Located : Type 0 where
+  pub number : ℕ
+  pub live : Live
+
+abbrev pub foundIn : Found → Located
+foundIn (F.the-variants.Refused why) = record { number = numberOf why; live = Nowhere }
+foundIn F.the-variants.NoLive = record { number = 5; live = Nowhere }
+foundIn (F.the-variants.On s) = record { number = 0; live = On s }
+
+unfoldable pub located : List ℕ → List ℕ → ℕ → ℕ → Located
+located l r o n =
+    record {
+      number = readNumber l r o n;
+      live = cond (eqb (readNumber l r o n) 0) (statusOf l r .live) Nowhere;
+    }

@@ -1,0 +1,135 @@
+// The two reads: one hands back the asked part of the live page itself, the other fills a lent
+// output.
+//
+// Both are total: any bytes, any lengths, any offset. Neither changes a page. The numbers are tested
+// before a byte of a page is looked at, and only a copy goes through the asked bytes. What each
+// answer means is in specs/Reads.antt.
+use pages::Live;
+use pages::PageOffset;
+use pages::Side;
+use requests::Check;
+use requests::Refusal;
+ghost use mathlib.Core.Path.{_≡_};
+ghost use Prim.Native.Nat.{_-_, _≤_};
+ghost use lib.ListN.{length, take, drop};
+ghost use Rattle.reads.specs.Reads.{
+  numberIn,
+  sidePage,
+  Located,
+  foundIn,
+  located,
+  readNumber,
+  readPart,
+  Filling,
+  filled,
+};
+
+// How a read is answered: the bytes are given, the request is refused, or no page is live.
+pub enum Reading {
+    Given,
+    Refused(Refusal),
+    NoLive,
+}
+
+impl Reading {
+    // Document 01's number, or 0 where the bytes are given.
+    pub fn number(self) -> u8
+        ensures { λ r. ⌜ r ≡ numberIn self ⌝ }
+    {
+        match self {
+            Reading::Given => 0,
+            Reading::Refused(why) => why.number(),
+            Reading::NoLive => 5,
+        }
+    }
+}
+
+// Where a read finds its bytes: on a side, or nowhere.
+enum Found {
+    Refused(Refusal),
+    NoLive,
+    On(Side),
+}
+
+fn locate<'a>(left: &'a [u8], right: &'a [u8], offset: PageOffset, len: usize) -> Found
+    ensures { λ r.
+        ⌜ _≡_ {A = Located} (foundIn r)
+        (located (now (left .entry)) (now (right .entry)) (offset .0) len) ⌝ }
+{
+    match requests::check_request(left.len(), right.len(), offset, len) {
+        Check::Refused(why) => Found::Refused(why),
+        Check::Legal => {
+            let status = pages::status_of(left, right);
+            let live = status.live;
+            match live {
+                Live::Nowhere => Found::NoLive,
+                Live::On(side) => Found::On(side),
+            }
+        }
+    }
+}
+
+// The bytes from start to end of the page on a side.
+fn part<'a>(left: &'a [u8], right: &'a [u8], side: Side, start: usize, end: usize) -> &'a [u8]
+    requires { ⌜ (start ≤ end) × ((end ≤ length (now left)) × (end ≤ length (now right))) ⌝ }
+    ensures { λ r.
+        ⌜ now r
+        ≡ take (end - start) (drop start (sidePage side (now (left .entry)) (now (right .entry)))) ⌝ }
+{
+    match side {
+        Side::Left => &left[start..end],
+        Side::Right => &right[start..end],
+    }
+}
+
+// How a read of a part is answered; no byte is copied.
+pub fn check_read<'a>(left: &'a [u8], right: &'a [u8], offset: PageOffset, len: u32) -> Reading
+    ensures { λ r.
+        ⌜ numberIn r ≡ readNumber (now (left .entry)) (now (right .entry)) (offset .0) len ⌝ }
+{
+    match locate(left, right, offset, len as usize) {
+        Found::Refused(why) => Reading::Refused(why),
+        Found::NoLive => Reading::NoLive,
+        Found::On(_) => Reading::Given,
+    }
+}
+
+// The asked part of the live page itself, with no copy; empty on every refusal.
+pub fn read<'a>(left: &'a [u8], right: &'a [u8], offset: PageOffset, len: u32) -> &'a [u8]
+    ensures { λ r.
+        ⌜ now r ≡ readPart (now (left .entry)) (now (right .entry)) (offset .0) len ⌝ }
+{
+    let size = len as usize;
+    match locate(left, right, offset, size) {
+        Found::Refused(_) => &left[0..0],
+        Found::NoLive => &left[0..0],
+        Found::On(side) => {
+            let start = offset.0 as usize;
+            let end = start + size;
+            part(left, right, side, start, end)
+        }
+    }
+}
+
+// Fills a lent output with the bytes from the offset on, as many as it has. Numbers 1 to 4 leave it
+// as it was; 5 fills it with FF.
+pub fn read_into<'a>(left: &'a [u8], right: &'a [u8], offset: PageOffset, out: &mut [u8]) -> Reading
+    ensures { λ r.
+        ⌜ _≡_ {A = Filling} (record { number = numberIn r; bytes = now (out .exit) })
+        (filled (now (left .entry)) (now (right .entry)) (offset .0) (now (out .entry))) ⌝ }
+{
+    let size = out.len();
+    match locate(left, right, offset, size) {
+        Found::Refused(why) => Reading::Refused(why),
+        Found::NoLive => {
+            flash::erase(out);
+            Reading::NoLive
+        }
+        Found::On(side) => {
+            let start = offset.0 as usize;
+            let end = start + size;
+            bytes::copy(part(left, right, side, start, end), out);
+            Reading::Given
+        }
+    }
+}

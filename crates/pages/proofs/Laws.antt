@@ -26,15 +26,15 @@ abbrev pub none : Row
 none = row 0 0 S0 Left
 
 -- a row whose words differ is passed over, and one that holds them is the answer
-pub left-differs : (x : Row) (l r : ℕ) (rest : Status) → (x .left ≡ l → ⊥) → first x l r rest ≡ rest
-left-differs x l r rest h = simp (ne-eqb (x .left) l h)
+pub left-differs : (x : Row) (l r : ℕ) (rest : Status) → (x .0 ≡ l → ⊥) → first x l r rest ≡ rest
+left-differs x l r rest h = simp (ne-eqb (x .0) l h)
 
-pub right-differs : (x : Row) (l r : ℕ) (rest : Status) → x .left ≡ l → (x .right ≡ r → ⊥) → first x l r rest ≡ rest
-right-differs x l r rest e h = simp (eq-eqb (x .left) l e, ne-eqb (x .right) r h)
+pub right-differs : (x : Row) (l r : ℕ) (rest : Status) → x .0 ≡ l → (x .1 ≡ r → ⊥) → first x l r rest ≡ rest
+right-differs x l r rest e h = simp (eq-eqb (x .0) l e, ne-eqb (x .1) r h)
 
-pub words-held : (x : Row) (l r : ℕ) (rest : Status) → x .left ≡ l → x .right ≡ r
-    → first x l r rest ≡ (record { state = x .state; live = On (x .live) })
-words-held x l r rest e h = simp (eq-eqb (x .left) l e, eq-eqb (x .right) r h)
+pub words-held : (x : Row) (l r : ℕ) (rest : Status) → x .0 ≡ l → x .1 ≡ r
+    → first x l r rest ≡ (record { state = x .2; live = On (x .3) })
+words-held x l r rest e h = simp (eq-eqb (x .0) l e, eq-eqb (x .1) r h)
 
 -- the look-up from a row on, from the look-up after it
 look-cons : (xs : List Row) (i l r : ℕ) → i < length xs

@@ -1,9 +1,13 @@
--- The rule of document 01's table, proved once over the table: each row is found by its own words, and its live side is that of
--- its state. From it, the live side of any two pages is that of their state. Assumes nothing.
+-- The rule of document 01's table, proved once over the table: each row is found by its own words, its live side is that of its
+-- state, and the live page is the one that its marks say. From it, the live side of any two pages is that of their state.
+-- Assumes nothing.
 use mathlib.Core.Path.{_≡_, refl, sym}
-use mathlib.Core.Bool.{Bool, true, false, cond}
+use mathlib.Core.Bool.{Bool, true, false, cond, not, _&&_, _||_}
 use mathlib.Core.List.{List, [], _∷_}
 use Prim.Native.Nat.{ℕ}
+use lib.Dec.{eqb}
+use Rattle.pages.specs.declared.Side.{Side}
+use Rattle.pages.specs.declared.Side.the-variants.{Left, Right}
 use Rattle.pages.specs.declared.Live.the-variants.{On}
 use Rattle.pages.specs.declared.Status.{Status}
 use Rattle.pages.specs.declared.Row.{Row}
@@ -14,11 +18,32 @@ abbrev pub All : (Row → Type 0) → List Row → Type 0
 All P [] = Unit {0}
 All P (x ∷ xs) = P x × All P xs
 
--- the rule of a row: its words lead to it and to no other row, and its state says its live side
+-- of two things, one a side, that on a side
+abbrev sideOf : Side → ℕ → ℕ → ℕ
+sideOf Left l r = l
+sideOf Right l r = r
+
+-- marked Valid and not Dead
+abbrev isValid : ℕ → Bool
+isValid w = eqb w 0xFFFF0000 || eqb w 0xFFFFFF00
+
+-- the page to read of two: a valid one, and of two valid ones the newer, which isn't marked Active yet
+abbrev leads : ℕ → ℕ → Bool
+leads w other = isValid w && (not (isValid other) || eqb w 0xFFFFFF00)
+
+abbrev liveWord : Row → ℕ
+liveWord x = sideOf (x .3) (x .0) (x .1)
+
+abbrev otherWord : Row → ℕ
+otherWord x = sideOf (x .3) (x .1) (x .0)
+
+-- the rule of a row: its words lead to it and to no other row, its state says its live side, and of its pages the live one leads
 abbrev pub Ruled : Row → Type 0
 Ruled x =
-    (look table (x .left) (x .right) ≡ (record { state = x .state; live = On (x .live) }))
-    × (liveOf (x .state) ≡ On (x .live))
+    (look table (x .0) (x .1) ≡ (record { state = x .2; live = On (x .3) }))
+    × (liveOf (x .2) ≡ On (x .3))
+    × (leads (liveWord x) (otherWord x) ≡ true)
+    × (leads (otherWord x) (liveWord x) ≡ false)
 
 pub ruled : All Ruled table
 unfolding look liveOf
@@ -34,7 +59,7 @@ look-live : (xs : List Row) → All Ruled xs → (l r : ℕ) → look xs l r .li
 unfolding look liveOf
 look-live [] a l r = refl
 look-live (x ∷ xs) a l r =
-    pick-live (hits x l r) (record { state = x .state; live = On (x .live) }) (look xs l r)
+    pick-live (hits x l r) (record { state = x .2; live = On (x .3) }) (look xs l r)
     (sym (a .0 .1)) (look-live xs (a .1) l r)
 
 pub status-live : (l r : List ℕ) → statusOf l r .live ≡ liveOf (statusOf l r .state)

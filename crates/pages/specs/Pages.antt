@@ -24,9 +24,9 @@ unfoldable pub wordOf : List ℕ → ℕ
 wordOf page = wordFrom (getD page 0 0) (getD page 1 0) (getD page 2 0) (getD page 3 0)
 
 abbrev pub row : ℕ → ℕ → State → Side → Row
-row l r s v = record { left = l; right = r; state = s; live = v }
+row left right state live = record { 0 = left; 1 = right; 2 = state; 3 = live }
 
--- the table of "Which page is live"; S1 is lines 1 and 4, which hold the same words
+-- the table of "Which page is live": the word of LEFT, the word of RIGHT, the state, the live side; S1 is lines 1 and 4, which hold the same words
 abbrev pub table : List Row
 table =
     row 0xFFFF0000 0xFFFFFFFF S1 Left
@@ -42,11 +42,11 @@ table =
 
 -- the row holds this pair of words
 abbrev pub hits : Row → ℕ → ℕ → Bool
-hits x l r = eqb (x .left) l && eqb (x .right) r
+hits x l r = eqb (x .0) l && eqb (x .1) r
 
 -- the state and live side of a row that holds the words, else those given
 abbrev pub first : Row → ℕ → ℕ → Status → Status
-first x l r rest = cond (hits x l r) (record { state = x .state; live = On (x .live) }) rest
+first x l r rest = cond (hits x l r) (record { state = x .2; live = On (x .3) }) rest
 
 -- the state and live side of the row that holds a pair of words; "0: any other pair", none live
 unfoldable pub look : List Row → ℕ → ℕ → Status

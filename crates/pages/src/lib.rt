@@ -47,83 +47,33 @@ pub struct Status {
     pub live: Live,
 }
 
-// A pair of management words with its state and the live side.
-pub struct Row {
-    pub left: u32,
-    pub right: u32,
-    pub state: State,
-    pub live: Side,
-}
+// A row of the table: the word of LEFT, the word of RIGHT, their state and the live side.
+pub struct Row(pub u32, pub u32, pub State, pub Side);
 
 const TABLE: [Row; 9] = [
-    Row {
-        left: 0xFFFF0000,
-        right: 0xFFFFFFFF,
-        state: State::S1,
-        live: Side::Left,
-    },
-    Row {
-        left: 0xFFFF0000,
-        right: 0xFF00FFFF,
-        state: State::S2,
-        live: Side::Left,
-    },
-    Row {
-        left: 0xFFFF0000,
-        right: 0xFF000000,
-        state: State::S3,
-        live: Side::Left,
-    },
-    Row {
-        left: 0xFFFF0000,
-        right: 0xFFFFFF00,
-        state: State::S5,
-        live: Side::Right,
-    },
-    Row {
-        left: 0xFF000000,
-        right: 0xFFFFFF00,
-        state: State::S6,
-        live: Side::Right,
-    },
-    Row {
-        left: 0xFF000000,
-        right: 0xFFFF0000,
-        state: State::S7,
-        live: Side::Right,
-    },
-    Row {
-        left: 0xFFFFFFFF,
-        right: 0xFFFF0000,
-        state: State::S8,
-        live: Side::Right,
-    },
-    Row {
-        left: 0xFFFFFF00,
-        right: 0xFFFF0000,
-        state: State::S9,
-        live: Side::Left,
-    },
-    Row {
-        left: 0xFFFFFF00,
-        right: 0xFF000000,
-        state: State::S10,
-        live: Side::Left,
-    },
+    Row(0xFFFF0000, 0xFFFFFFFF, State::S1, Side::Left),
+    Row(0xFFFF0000, 0xFF00FFFF, State::S2, Side::Left),
+    Row(0xFFFF0000, 0xFF000000, State::S3, Side::Left),
+    Row(0xFFFF0000, 0xFFFFFF00, State::S5, Side::Right),
+    Row(0xFF000000, 0xFFFFFF00, State::S6, Side::Right),
+    Row(0xFF000000, 0xFFFF0000, State::S7, Side::Right),
+    Row(0xFFFFFFFF, 0xFFFF0000, State::S8, Side::Right),
+    Row(0xFFFFFF00, 0xFFFF0000, State::S9, Side::Left),
+    Row(0xFFFFFF00, 0xFF000000, State::S10, Side::Left),
 ];
 
 // The state and live side of a row that holds the words, else what the rows after it gave.
 fn pick(row: Row, left: u32, right: u32, rest: Status) -> Status
     ensures { λ r. ⌜ r ≡ first row left right rest ⌝ }
 {
-    if row.left != left {
+    if row.0 != left {
         return rest;
     }
-    if row.right != right {
+    if row.1 != right {
         return rest;
     }
-    let state = row.state;
-    let live = row.live;
+    let state = row.2;
+    let live = row.3;
     Status {
         state: state,
         live: Live::On(live),
@@ -131,7 +81,7 @@ fn pick(row: Row, left: u32, right: u32, rest: Status) -> Status
 }
 
 // The state of a pair of words, and its live side: those of the table's row with these words, or S0.
-// It goes from the last row to the first, so that the table needs no place in memory.
+// The rows are gone through from the last to the first: compiled, the table is then constants.
 fn look_up(left: u32, right: u32) -> Status
     ensures { λ r. ⌜ r ≡ look table left right ⌝ }
 {

@@ -105,9 +105,10 @@ pub on-part : (l r : List ℕ) (o n : ℕ) (s : Side) → _≡_ {A = Located} (r
 unfolding readPart
 on-part l r o n s e = sym (simp (on-number l r o n s e, on-live l r o n s e))
 
-pub part-bytes : (l r : List ℕ) (o n : ℕ) (s : Side) → _≡_ {A = Located} (record { number = 0; live = On s }) (located l r o n)
-    → take (o + n - o) (drop o (sidePage s l r)) ≡ readPart l r o n
-part-bytes l r o n s e = rw (add-sub-cancel-left o n) (on-part l r o n s e)
+-- the bytes from o to o + n of the page on a side
+pub side-part : (l r : List ℕ) (o n : ℕ) (s t : Side) → s ≡ t
+    → take (o + n - o) (drop o (sidePage t l r)) ≡ take n (drop o (sidePage s l r))
+side-part l r o n s t e = rw (add-sub-cancel-left o n, e)
 
 -- a page of a legal request holds the asked bytes
 side-length : (l r : List ℕ) (s : Side) → length l ≡ length r → length (sidePage s l r) ≡ length l
@@ -115,11 +116,11 @@ side-length l r Left e = refl
 side-length l r Right e = sym e
 
 pub part-length : (l r : List ℕ) (o n : ℕ) (s : Side) → _≡_ {A = Located} (record { number = 0; live = On s }) (located l r o n)
-    → length (take (o + n - o) (drop o (sidePage s l r))) ≡ n
+    → length (take n (drop o (sidePage s l r))) ≡ n
 part-length l r o n s e =
     let h = on-legal l r o n s e in
     let k : length (sidePage s l r) ≡ length l = side-length l r s (h .same) in
-    rw (add-sub-cancel-left o n) (length-take-le n (drop o (sidePage s l r)) (simp length-drop (omega arith)))
+    length-take-le n (drop o (sidePage s l r)) (simp length-drop (omega arith))
 
 -- a copy of as many bytes as the output has is those bytes
 copied : (src out : List ℕ) → length src ≡ length out → take (length src) src ++ drop (length src) out ≡ src
@@ -153,10 +154,10 @@ blank l r o out bytes e h =
 
 pub given : (l r : List ℕ) (o : ℕ) (s : Side) (out src bytes : List ℕ)
     → _≡_ {A = Located} (record { number = 0; live = On s }) (located l r o (length out))
-    → src ≡ take (o + length out - o) (drop o (sidePage s l r))
+    → src ≡ take (length out) (drop o (sidePage s l r))
     → bytes ≡ take (length src) src ++ drop (length src) out
     → _≡_ {A = Filling} (record { number = 0; bytes = bytes }) (filled l r o out)
 unfolding outputAfter
 given l r o s out src bytes e p q =
     filling l r o 0 out bytes (found-number l r o (length out) (record { number = 0; live = On s }) e)
-    (q ∙ copied src out (ap length p ∙ part-length l r o (length out) s e) ∙ p ∙ part-bytes l r o (length out) s e)
+    (q ∙ copied src out (ap length p ∙ part-length l r o (length out) s e) ∙ p ∙ on-part l r o (length out) s e)

@@ -10,7 +10,7 @@ use pages::Side;
 use requests::Check;
 use requests::Refusal;
 ghost use mathlib.Core.Path.{_≡_};
-ghost use Prim.Native.Nat.{_-_, _≤_};
+ghost use Prim.Native.Nat.{_+_, _≤_};
 ghost use lib.ListN.{length, take, drop};
 ghost use Rattle.reads.specs.Reads.{
   numberIn,
@@ -51,7 +51,7 @@ enum Found {
     On(Side),
 }
 
-fn locate<'a>(left: &'a [u8], right: &'a [u8], offset: PageOffset, len: usize) -> Found
+fn locate(left: &[u8], right: &[u8], offset: PageOffset, len: usize) -> Found
     ensures { λ r.
         ⌜ _≡_ {A = Located} (foundIn r)
         (located (now (left .entry)) (now (right .entry)) (offset .0) len) ⌝ }
@@ -69,13 +69,15 @@ fn locate<'a>(left: &'a [u8], right: &'a [u8], offset: PageOffset, len: usize) -
     }
 }
 
-// The bytes from start to end of the page on a side.
-fn part<'a>(left: &'a [u8], right: &'a [u8], side: Side, start: usize, end: usize) -> &'a [u8]
-    requires { ⌜ (start ≤ end) × ((end ≤ length (now left)) × (end ≤ length (now right))) ⌝ }
+// The asked bytes of the page on a side.
+fn part<'a>(left: &'a [u8], right: &'a [u8], side: Side, offset: PageOffset, len: usize) -> &'a [u8]
+    requires { ⌜ (offset .0 + len ≤ length (now left)) × (offset .0 + len ≤ length (now right)) ⌝ }
     ensures { λ r.
         ⌜ now r
-        ≡ take (end - start) (drop start (sidePage side (now (left .entry)) (now (right .entry)))) ⌝ }
+        ≡ take len (drop (offset .0) (sidePage side (now (left .entry)) (now (right .entry)))) ⌝ }
 {
+    let start = offset.0 as usize;
+    let end = start + len;
     match side {
         Side::Left => &left[start..end],
         Side::Right => &right[start..end],
@@ -83,7 +85,7 @@ fn part<'a>(left: &'a [u8], right: &'a [u8], side: Side, start: usize, end: usiz
 }
 
 // How a read of a part is answered; no byte is copied.
-pub fn check_read<'a>(left: &'a [u8], right: &'a [u8], offset: PageOffset, len: u32) -> Reading
+pub fn check_read(left: &[u8], right: &[u8], offset: PageOffset, len: u32) -> Reading
     ensures { λ r.
         ⌜ numberIn r ≡ readNumber (now (left .entry)) (now (right .entry)) (offset .0) len ⌝ }
 {
@@ -103,11 +105,7 @@ pub fn read<'a>(left: &'a [u8], right: &'a [u8], offset: PageOffset, len: u32) -
     match locate(left, right, offset, size) {
         Found::Refused(_) => &left[0..0],
         Found::NoLive => &left[0..0],
-        Found::On(side) => {
-            let start = offset.0 as usize;
-            let end = start + size;
-            part(left, right, side, start, end)
-        }
+        Found::On(side) => part(left, right, side, offset, size),
     }
 }
 
@@ -126,9 +124,7 @@ pub fn read_into<'a>(left: &'a [u8], right: &'a [u8], offset: PageOffset, out: &
             Reading::NoLive
         }
         Found::On(side) => {
-            let start = offset.0 as usize;
-            let end = start + size;
-            bytes::copy(part(left, right, side, start, end), out);
+            bytes::copy(part(left, right, side, offset, size), out);
             Reading::Given
         }
     }

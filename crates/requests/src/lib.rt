@@ -68,10 +68,10 @@ fn check_end(page: usize, start: usize, len: usize) -> Check
     if page <= start {
         return Check::Refused(Refusal::PastEnd);
     }
-    if page - start < len {
-        return Check::Refused(Refusal::PastEnd);
+    if len <= page - start {
+        return Check::Legal;
     }
-    Check::Legal
+    Check::Refused(Refusal::PastEnd)
 }
 
 // Numbers 2 to 4 of a request to pages of one length.

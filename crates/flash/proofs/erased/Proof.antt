@@ -12,8 +12,6 @@ use Rattle.flash.specs.Flash.{isErased}
 use Rattle.flash.proofs.Laws.{fold-step, folded}
 use Rattle.flash.proofs.erased.Statement.{statement}
 use Rattle.flash.proofs.erased.Tie as tie
-use Rattle.flash.proofs.erased.Reads as reads
-use Rattle.flash.proofs.erased.Lts as lts
 
 abbrev Inv-loop : tie.InvT-loop
 Inv-loop page n all₀ i₀ all i =
@@ -22,23 +20,18 @@ Inv-loop page n all₀ i₀ all i =
 abbrev μ-loop : tie.MeasureT-loop
 μ-loop page n all₀ i₀ all i = n - i
 
--- src/lib.rt:88:5
 loop-holds : tie.Need-loop-holds Inv-loop μ-loop
 loop-holds c = (search needs, (search needs, refl))
 
--- src/lib.rt:89:21
 shared-slice-read-all : tie.Need-shared-slice-read-all Inv-loop μ-loop
 shared-slice-read-all c = search needs
 
--- src/lib.rt:90:9
 add-i : tie.Need-add-i Inv-loop μ-loop
 add-i c = search needs
 
--- src/lib.rt:88:5
 loop-less : tie.Need-loop-less Inv-loop μ-loop
 loop-less c = search needs
 
--- src/lib.rt:88:5
 loop-again : tie.Need-loop-again Inv-loop μ-loop
 loop-again c =
     let l = c .before .before .before .args .page .now in
@@ -51,7 +44,6 @@ loop-again c =
       ),
     )
 
--- src/lib.rt:82:1
 returns : tie.Need-returns Inv-loop μ-loop
 returns c = folded _ (c .before .loop .i) (c .before .loop .all) (search needs) (c .before .loop .inv .1 .1)
 

@@ -9,71 +9,62 @@ use Rattle.flash.specs.Flash.{stored}
 use Rattle.flash.proofs.Laws.{step-unfit, step-nowhere, step-made, holds-inside}
 use Rattle.flash.proofs.program.Statement.{statement}
 use Rattle.flash.proofs.program.Tie as tie
-use Rattle.flash.proofs.program.Reads as reads
-use Rattle.flash.proofs.program.Lts as lts
-use Rattle.flash.proofs.cell_at.Reads as cell-at-reads
 
--- src/lib.rt:55:11
 cell-at-requires : tie.Need-cell-at-requires
 cell-at-requires c κs = search needs
 
--- src/lib.rt:56:26
 enum-told : tie.Need-enum-told
 enum-told c = search needs
 
--- src/lib.rt:57:21
 enum-known-old : tie.Need-enum-known-old
 enum-known-old c = search needs
 
--- src/lib.rt:60:17
 same-length : tie.Need-same-length
 same-length c = search needs
 
--- src/lib.rt:60:17
 returns : tie.Need-returns
-returns c = step-unfit _ _ _ _ (sym (c .before .before .before .before .cell-at .ensures) ∙ c .before .before .old .given .1) (c .if1 .taken)
+returns c =
+    let old = c .before .before .old .given .0 .0 in
+    let a = c .before .before .before .before .before .before .before .args in
+    step-unfit (a .page .now) (a .at) (a .value) old
+    (sym (c .before .before .before .before .cell-at .ensures) ∙ c .before .before .old .given .1) (omega arith)
 
 -- the byte after the place lies in the page
 inside : (c : tie.Else1) → c .before .before .before .before .before .before .before .args .at + 1
     < length (c .before .before .before .before .before .before .before .args .page .now)
 inside c = holds-inside _ _ _ (sym (c .before .before .before .before .cell-at .ensures) ∙ c .before .before .old .given .1)
 
--- src/lib.rt:62:24
 add-next : tie.Need-add-next
 add-next c = omega (arith, inside c)
 
--- src/lib.rt:63:24
 cast-page : tie.Need-cast-page
 cast-page c = search needs
 
--- src/lib.rt:63:13
 slice-write-page : tie.Need-slice-write-page
 slice-write-page c = omega (arith, inside c)
 
--- src/lib.rt:64:26
 cast-page-2 : tie.Need-cast-page-2
 cast-page-2 c = search needs
 
--- src/lib.rt:64:13
 slice-write-page-2 : tie.Need-slice-write-page-2
 slice-write-page-2 c = simp length-set (omega (arith, inside c))
 
--- src/lib.rt:49:1
 same-length-2 : tie.Need-same-length-2
 same-length-2 c = search needs
 
--- src/lib.rt:49:1
 returns-2 : tie.Need-returns-2
 returns-2 c = step-nowhere _ _ _ (sym (c .before .before .cell-at .ensures) ∙ c .enum-told .given .1)
 
--- src/lib.rt:49:1
 same-length-3 : tie.Need-same-length-3
 same-length-3 c = search needs
 
--- src/lib.rt:49:1
 returns-3 : tie.Need-returns-3
 unfolding stored
-returns-3 c = step-made _ _ _ _ (sym (c .before .before .before .before .cell-at .ensures) ∙ c .before .before .old .given .1) (c .if1 .left)
+returns-3 c =
+    let old = c .before .before .old .given .0 .0 in
+    let a = c .before .before .before .before .before .before .before .args in
+    step-made (a .page .now) (a .at) (a .value) old
+    (sym (c .before .before .before .before .cell-at .ensures) ∙ c .before .before .old .given .1) (omega arith)
 
 pub program-spec : {M : Type 1} → statement M
 program-spec =

@@ -10,9 +10,6 @@ use Rattle.pages.specs.Pages.{table, first, look}
 use Rattle.pages.proofs.Laws.{none, look-before, look-all}
 use Rattle.pages.proofs.look_up.Statement.{statement}
 use Rattle.pages.proofs.look_up.Tie as tie
-use Rattle.pages.proofs.look_up.Reads as reads
-use Rattle.pages.proofs.look_up.Lts as lts
-use Rattle.pages.proofs.pick.Reads as pick-reads
 
 abbrev Inv-loop : tie.InvT-loop
 Inv-loop left right rows found₀ i₀ found i = (i ≤ 9) × (found ≡ look (drop i table) left right)

@@ -1,23 +1,25 @@
 -- `pages::pick` meets its contract: at each `return` the tests that led there say whether the row holds the words.
 -- Assumes nothing.
 use mathlib.Core.Path.{sym}
+use native.Mathlib.Omega.{arith}
 use Rattle.pages.proofs.Laws.{left-differs, right-differs, words-held}
 use Rattle.pages.proofs.pick.Statement.{statement}
 use Rattle.pages.proofs.pick.Tie as tie
-use Rattle.pages.proofs.pick.Reads as reads
-use Rattle.pages.proofs.pick.Lts as lts
 
--- src/lib.rt:115:9
 returns : tie.Need-returns
-returns c = sym (left-differs (c .before .before .args .row) _ (c .before .before .args .right) _ (c .if1 .taken))
+returns c =
+    let a = c .before .before .args in
+    sym (left-differs (a .row) (a .left) (a .right) (a .rest) (omega arith))
 
--- src/lib.rt:118:9
 returns-2 : tie.Need-returns-2
-returns-2 c = sym (right-differs (c .before .before .before .before .args .row) _ _ _ (c .before .before .if1 .left) (c .if2 .taken))
+returns-2 c =
+    let a = c .before .before .before .before .args in
+    sym (right-differs (a .row) (a .left) (a .right) (a .rest) (omega arith) (omega arith))
 
--- src/lib.rt:111:1
 returns-3 : tie.Need-returns-3
-returns-3 c = sym (words-held (c .before .before .before .before .args .row) _ _ _ (c .before .before .if1 .left) (c .if2 .left))
+returns-3 c =
+    let a = c .before .before .before .before .args in
+    sym (words-held (a .row) (a .left) (a .right) (a .rest) (omega arith) (omega arith))
 
 pub pick-spec : {M : Type 1} → statement M
 pick-spec = tie.close (tie.spec returns returns-2 returns-3)

@@ -5,36 +5,26 @@ use Rattle.reads.proofs.Laws.{found-number}
 use borrow.Author.Needs.{needs}
 use Rattle.reads.proofs.check_read.Statement.{statement}
 use Rattle.reads.proofs.check_read.Tie as tie
-use Rattle.reads.proofs.check_read.Reads as reads
-use Rattle.reads.proofs.check_read.Lts as lts
-use Rattle.reads.proofs.locate.Reads as locate-reads
 
--- src/lib.rt:90:11
 locate-requires : tie.Need-locate-requires
 locate-requires c κs = search needs
 
--- src/lib.rt:91:24
 enum-known-why : tie.Need-enum-known-why
 enum-known-why c = search needs
 
--- src/lib.rt:92:26
 enum-told : tie.Need-enum-told
 enum-told c = search needs
 
--- src/lib.rt:93:25
 enum-told-2 : tie.Need-enum-told-2
 enum-told-2 c = search needs
 
--- src/lib.rt:86:1
 returns : tie.Need-returns
 returns c =
     found-number _ _ _ _ _ (ap foundIn (sym (c .before .why .given .1)) ∙ c .before .before .before .locate .ensures)
 
--- src/lib.rt:86:1
 returns-2 : tie.Need-returns-2
 returns-2 c = found-number _ _ _ _ _ (ap foundIn (sym (c .enum-told .given .1)) ∙ c .before .before .locate .ensures)
 
--- src/lib.rt:86:1
 returns-3 : tie.Need-returns-3
 returns-3 c = found-number _ _ _ _ _ (ap foundIn (sym (c .enum-told2 .given .1)) ∙ c .before .before .locate .ensures)
 

@@ -6,49 +6,36 @@ use Rattle.reads.proofs.Laws.{found-refused, found-none, found-on}
 use borrow.Author.Needs.{needs}
 use Rattle.reads.proofs.locate.Statement.{statement}
 use Rattle.reads.proofs.locate.Tie as tie
-use Rattle.reads.proofs.locate.Reads as reads
-use Rattle.reads.proofs.locate.Lts as lts
-use Rattle.pages.proofs.status_of.Reads as status-of-reads
-use Rattle.requests.proofs.check_request.Reads as check-request-reads
 
--- src/lib.rt:59:11
 check-request-requires : tie.Need-check-request-requires
 check-request-requires c κs = search needs
 
--- src/lib.rt:60:24
 enum-known-why : tie.Need-enum-known-why
 enum-known-why c = search needs
 
--- src/lib.rt:62:17
 enum-told : tie.Need-enum-told
 enum-told c = search needs
 
--- src/lib.rt:62:17
 status-of-requires : tie.Need-status-of-requires
 status-of-requires c κs = search needs
 
--- src/lib.rt:65:34
 enum-told-2 : tie.Need-enum-told-2
 enum-told-2 c = search needs
 
--- src/lib.rt:66:26
 enum-known-live : tie.Need-enum-known-live
 enum-known-live c = search needs
 
--- src/lib.rt:54:1
 returns : tie.Need-returns
 returns c =
     found-refused _ _ _ _ (c .before .why .given .0 .0)
     (ap numberIn (sym (c .before .why .given .1)) ∙ c .before .before .before .check-request .ensures)
 
--- src/lib.rt:54:1
 returns-2 : tie.Need-returns-2
 returns-2 c =
     found-none _ _ _ _
     (sym (c .before .before .before .before .before .check-request .ensures) ∙ ap numberIn (c .before .before .before .enum-told .given .1))
     (sym (ap (λ (s : Status). s .live) (c .before .before .status-of .ensures)) ∙ c .enum-told2 .given .1)
 
--- src/lib.rt:54:1
 returns-3 : tie.Need-returns-3
 returns-3 c =
     found-on _ _ _ _ (c .before .live .given .0 .0)

@@ -2,88 +2,60 @@
 -- Assumes nothing.
 use mathlib.Core.Path.{_≡_, sym, ap, _∙_}
 use native.Mathlib.Omega.{arith}
-use denote.Ref.{now}
-use Rattle.pages.specs.declared.Live.the-variants.{On}
 use Rattle.requests.proofs.Laws.{never-none}
-use Rattle.reads.specs.Reads.{Located, located, foundIn}
-use Rattle.reads.proofs.Laws.{no-part, on-legal, part-bytes}
+use Rattle.reads.specs.Reads.{foundIn}
+use Rattle.reads.proofs.Laws.{no-part, on-legal, on-part}
 use borrow.Author.Needs.{needs}
 use Rattle.reads.proofs.read.Statement.{statement}
 use Rattle.reads.proofs.read.Tie as tie
-use Rattle.reads.proofs.read.Reads as reads
-use Rattle.reads.proofs.read.Lts as lts
-use Rattle.reads.proofs.locate.Reads as locate-reads
-use Rattle.reads.proofs.part.Reads as part-reads
 
--- src/lib.rt:103:11
 locate-requires : tie.Need-locate-requires
 locate-requires c κs = search needs
 
--- src/lib.rt:104:30
 enum-told : tie.Need-enum-told
 enum-told c = search needs
 
--- src/lib.rt:104:30
 sub-result : tie.Need-sub-result
 sub-result c = search needs
 
--- src/lib.rt:104:30
 part-result-start : tie.Need-part-result-start
 part-result-start c = search needs
 
--- src/lib.rt:104:30
 part-result-end : tie.Need-part-result-end
 part-result-end c = search needs
 
--- src/lib.rt:105:26
 enum-told-2 : tie.Need-enum-told-2
 enum-told-2 c = search needs
 
--- src/lib.rt:105:26
 sub-result-2 : tie.Need-sub-result-2
 sub-result-2 c = search needs
 
--- src/lib.rt:105:26
 part-result-start-2 : tie.Need-part-result-start-2
 part-result-start-2 c = search needs
 
--- src/lib.rt:105:26
 part-result-end-2 : tie.Need-part-result-end-2
 part-result-end-2 c = search needs
 
--- src/lib.rt:106:19
 enum-known-side : tie.Need-enum-known-side
 enum-known-side c = search needs
 
--- src/lib.rt:107:25
-cast-start : tie.Need-cast-start
-cast-start c = search needs
-
--- src/lib.rt:108:23
-add-end : tie.Need-add-end
-add-end c = search needs
-
--- src/lib.rt:109:13
 part-requires : tie.Need-part-requires
 part-requires c κs =
-    omega (arith, on-legal _ _ _ _ _ (ap foundIn (sym (c .before .before .side .given .1)) ∙ c .before .before .before .before .locate .ensures))
+    omega (arith, on-legal _ _ _ _ _ (ap foundIn (sym (c .before .side .given .1)) ∙ c .before .before .before .locate .ensures))
 
--- src/lib.rt:98:1
 returns : tie.Need-returns
 returns c =
     no-part _ _ _ _ _ (ap foundIn (sym (c .before .enum-told .given .1)) ∙ c .before .before .before .locate .ensures)
     (never-none (c .before .enum-told .given .0 .0))
 
--- src/lib.rt:98:1
 returns-2 : tie.Need-returns-2
 returns-2 c =
     no-part _ _ _ _ _ (ap foundIn (sym (c .before .enum-told2 .given .1)) ∙ c .before .before .before .locate .ensures) (λ e. omega (arith, e))
 
--- src/lib.rt:98:1
 returns-3 : tie.Need-returns-3
 returns-3 c =
     c .part .ensures
-    ∙ part-bytes _ _ _ _ _ (ap foundIn (sym (c .before .before .before .side .given .1)) ∙ c .before .before .before .before .before .locate .ensures)
+    ∙ on-part _ _ _ _ _ (ap foundIn (sym (c .before .before .side .given .1)) ∙ c .before .before .before .before .locate .ensures)
 
 pub read-spec : {M : Type 1} → statement M
 read-spec =
@@ -99,8 +71,6 @@ read-spec =
     part-result-start-2
     part-result-end-2
     enum-known-side
-    cast-start
-    add-end
     part-requires
     returns
     returns-2

@@ -5,35 +5,25 @@ use mathlib.Core.Path.{sym, ap, _∙_}
 use borrow.Author.Needs.{needs}
 use Rattle.requests.proofs.check_request.Statement.{statement}
 use Rattle.requests.proofs.check_request.Tie as tie
-use Rattle.requests.proofs.check_request.Reads as reads
-use Rattle.requests.proofs.check_request.Lts as lts
-use Rattle.requests.proofs.check_pages.Reads as check-pages-reads
-use Rattle.requests.proofs.check_span.Reads as check-span-reads
 
--- src/lib.rt:99:11
 check-pages-requires : tie.Need-check-pages-requires
 check-pages-requires c κs = search needs
 
--- src/lib.rt:100:24
 enum-known-why : tie.Need-enum-known-why
 enum-known-why c = search needs
 
--- src/lib.rt:101:25
 enum-told : tie.Need-enum-told
 enum-told c = search needs
 
--- src/lib.rt:101:25
 check-span-requires : tie.Need-check-span-requires
 check-span-requires c κs = search needs
 
--- src/lib.rt:96:1
 returns : tie.Need-returns
 returns c =
     let at = c .before .before .before .before in
     pages-first _ _ (at .args .offset .0) (at .args .len) 0 (c .before .why .given .0 .0)
     (ap numberIn (sym (c .before .why .given .1)) ∙ c .before .before .before .check-pages .ensures)
 
--- src/lib.rt:96:1
 returns-2 : tie.Need-returns-2
 returns-2 c =
     c .check-span .ensures

@@ -21,12 +21,12 @@ unfoldable pub isCell : List ℕ → ℕ → Bool
 isCell l i = isEven i && ltb (i + 1) (length l)
 
 -- "low byte first"
-abbrev pub numberOf : ℕ → ℕ → ℕ
-numberOf low high = low + high * 256
+abbrev pub cellNumber : ℕ → ℕ → ℕ
+cellNumber low high = low + high * 256
 
 -- the number that the cell at a place holds
 abbrev pub cellAt : List ℕ → ℕ → ℕ
-cellAt l i = numberOf (getD l i 0) (getD l (i + 1) 0)
+cellAt l i = cellNumber (getD l i 0) (getD l (i + 1) 0)
 
 -- what stands at a place
 unfoldable pub cellOf : List ℕ → ℕ → Cell
@@ -50,9 +50,9 @@ pub record Programming : Type 0 where
   pub bytes : List ℕ
 
 -- document 01's number for each answer: a step that doesn't fit is 6
-abbrev pub numberAt : Programmed → ℕ
-numberAt Made = 0
-numberAt Unfit = 6
+abbrev pub numberIn : Programmed → ℕ
+numberIn Made = 0
+numberIn Unfit = 6
 
 -- "every bit of the cell becomes old AND new. A step asked to turn a 0 bit into a 1 isn't made (refusal 6)"
 unfoldable pub programmed : List ℕ → ℕ → ℕ → Programming

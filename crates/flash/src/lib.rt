@@ -6,9 +6,9 @@
 ghost use mathlib.Core.Path.{_≡_};
 ghost use Rattle.flash.specs.Flash.{
   Programming,
-  numberOf,
+  cellNumber,
   cellOf,
-  numberAt,
+  numberIn,
   programmed,
   erasure,
   isErased,
@@ -28,7 +28,7 @@ pub enum Programmed {
 
 // The number of two bytes, low byte first.
 fn joined(low: u8, high: u8) -> u16
-    ensures { λ r. ⌜ r ≡ numberOf low high ⌝ }
+    ensures { λ r. ⌜ r ≡ cellNumber low high ⌝ }
 {
     low as u16 + high as u16 * 256
 }
@@ -55,7 +55,7 @@ pub fn cell_at(page: &[u8], at: usize) -> Cell
 pub fn program(page: &mut [u8], at: usize, value: u16) -> Programmed
     ensures { λ r.
         ⌜ _≡_ {A = Programming}
-        (record { number = numberAt r; bytes = now (page .exit) })
+        (record { number = numberIn r; bytes = now (page .exit) })
         (programmed (now (page .entry)) at value) ⌝ }
 {
     match cell_at(page, at) {

@@ -18,7 +18,7 @@ use Rattle.pages.specs.declared.Row.{Row}
 use Rattle.pages.specs.declared.PageOffset.{PageOffset}
 use Rattle.pages.specs.declared.ImageOffset.{ImageOffset}
 use Rattle.pages.specs.declared.InImage.the-variants.{Management, At}
-use Rattle.pages.specs.Pages.{row, first, look}
+use Rattle.pages.specs.Pages.{row, picked, look}
 use Rattle.pages.specs.Offsets.{toImage}
 
 -- what a read past a table's end would give
@@ -26,28 +26,28 @@ abbrev pub none : Row
 none = row 0 0 S0 Left
 
 -- a row whose words differ is passed over, and one that holds them is the answer
-pub left-differs : (x : Row) (l r : ℕ) (rest : Status) → (x .0 ≡ l → ⊥) → first x l r rest ≡ rest
+pub left-differs : (x : Row) (l r : ℕ) (rest : Status) → (x .0 ≡ l → ⊥) → picked x l r rest ≡ rest
 left-differs x l r rest h = simp (ne-eqb (x .0) l h)
 
-pub right-differs : (x : Row) (l r : ℕ) (rest : Status) → x .0 ≡ l → (x .1 ≡ r → ⊥) → first x l r rest ≡ rest
+pub right-differs : (x : Row) (l r : ℕ) (rest : Status) → x .0 ≡ l → (x .1 ≡ r → ⊥) → picked x l r rest ≡ rest
 right-differs x l r rest e h = simp (eq-eqb (x .0) l e, ne-eqb (x .1) r h)
 
 pub words-held : (x : Row) (l r : ℕ) (rest : Status) → x .0 ≡ l → x .1 ≡ r
-    → first x l r rest ≡ (record { state = x .2; live = On (x .3) })
+    → picked x l r rest ≡ (record { state = x .2; live = On (x .3) })
 words-held x l r rest e h = simp (eq-eqb (x .0) l e, eq-eqb (x .1) r h)
 
 -- the look-up from a row on, from the look-up after it
 look-cons : (xs : List Row) (i l r : ℕ) → i < length xs
-    → look (drop i xs) l r ≡ first (getD xs i none) l r (look (drop (suc i) xs) l r)
+    → look (drop i xs) l r ≡ picked (getD xs i none) l r (look (drop (suc i) xs) l r)
 unfolding look
 look-cons xs i l r h = rw (drop-cons xs i none h)
 
 pub look-before : (xs : List Row) (i l r : ℕ) → 0 < i → i ≤ length xs
-    → first (getD xs (i - 1) none) l r (look (drop i xs) l r) ≡ look (drop (i - 1) xs) l r
+    → picked (getD xs (i - 1) none) l r (look (drop i xs) l r) ≡ look (drop (i - 1) xs) l r
 look-before xs i l r p h =
     let e : suc (i - 1) ≡ i = omega arith in
     sym (look-cons xs (i - 1) l r (omega arith)
-    ∙ ap (λ (k : ℕ). first (getD xs (i - 1) none) l r (look (drop k xs) l r)) e)
+    ∙ ap (λ (k : ℕ). picked (getD xs (i - 1) none) l r (look (drop k xs) l r)) e)
 
 pub look-all : (xs : List Row) (i l r : ℕ) (s : Status) → i ≤ 0 → s ≡ look (drop i xs) l r → s ≡ look xs l r
 look-all xs i l r s h e =

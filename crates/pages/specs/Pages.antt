@@ -45,13 +45,13 @@ abbrev pub hits : Row → ℕ → ℕ → Bool
 hits x l r = eqb (x .0) l && eqb (x .1) r
 
 -- the state and live side of a row that holds the words, else those given
-abbrev pub first : Row → ℕ → ℕ → Status → Status
-first x l r rest = cond (hits x l r) (record { state = x .2; live = On (x .3) }) rest
+abbrev pub picked : Row → ℕ → ℕ → Status → Status
+picked x l r rest = cond (hits x l r) (record { state = x .2; live = On (x .3) }) rest
 
 -- the state and live side of the row that holds a pair of words; "0: any other pair", none live
 unfoldable pub look : List Row → ℕ → ℕ → Status
 look [] l r = record { state = S0; live = Nowhere }
-look (x ∷ xs) l r = first x l r (look xs l r)
+look (x ∷ xs) l r = picked x l r (look xs l r)
 
 -- the state of two pages, and which is live
 unfoldable pub statusOf : List ℕ → List ℕ → Status

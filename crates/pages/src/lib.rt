@@ -5,7 +5,7 @@
 // Valid lowest. Bytes 4 to P - 1 are the image. What each answer means is in specs/Pages.antt.
 ghost use mathlib.Core.Path.{_≡_};
 ghost use lib.ListN.{getD};
-ghost use Rattle.pages.specs.Pages.{wordOf, wordFrom, first, look, table, statusOf};
+ghost use Rattle.pages.specs.Pages.{wordOf, wordFrom, picked, look, table, statusOf, lineOf};
 ghost use Rattle.pages.specs.Offsets.{toImage};
 
 // How many bytes of a page are management.
@@ -36,6 +36,26 @@ pub enum State {
     S10,
 }
 
+impl State {
+    // Document 01's line number; 1 for the lines 1 and 4.
+    pub fn line(self) -> u8
+        ensures { λ r. ⌜ r ≡ lineOf self ⌝ }
+    {
+        match self {
+            State::S0 => 0,
+            State::S1 => 1,
+            State::S2 => 2,
+            State::S3 => 3,
+            State::S5 => 5,
+            State::S6 => 6,
+            State::S7 => 7,
+            State::S8 => 8,
+            State::S9 => 9,
+            State::S10 => 10,
+        }
+    }
+}
+
 // Which page is live, if any.
 pub enum Live {
     Nowhere,
@@ -64,7 +84,7 @@ const TABLE: [Row; 9] = [
 
 // The state and live side of a row that holds the words, else what the rows after it gave.
 fn pick(row: Row, left: u32, right: u32, rest: Status) -> Status
-    ensures { λ r. ⌜ r ≡ first row left right rest ⌝ }
+    ensures { λ r. ⌜ r ≡ picked row left right rest ⌝ }
 {
     if row.0 != left {
         return rest;

@@ -6,7 +6,7 @@ use native.Mathlib.Omega.{arith}
 use lib.ListN.{drop, getD}
 use borrow.Author.Needs.{needs}
 use Rattle.pages.specs.declared.Status.{Status}
-use Rattle.pages.specs.Pages.{table, first, look}
+use Rattle.pages.specs.Pages.{table, picked, look}
 use Rattle.pages.proofs.Laws.{none, look-before, look-all}
 use Rattle.pages.proofs.look_up.Statement.{statement}
 use Rattle.pages.proofs.look_up.Tie as tie
@@ -44,7 +44,7 @@ loop-again c =
     let x = getD table (at .loop .i - 1) none in (
       search needs,
       c .pick .ensures
-          ∙ ap (λ (s : Status). first x l r s) (at .loop .inv .1)
+          ∙ ap (λ (s : Status). picked x l r s) (at .loop .inv .1)
           ∙ look-before table (at .loop .i) l r (search needs) (search needs),
     )
 

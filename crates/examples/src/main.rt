@@ -16,18 +16,6 @@ const VECTORS: [Vector; 6] = [
     Vector(4096, 4, 4092, 0),
 ];
 
-fn wide(n: u32) -> u64 {
-    n as u64
-}
-
-fn long(n: usize) -> u64 {
-    n as u64
-}
-
-fn byte(n: u8) -> u64 {
-    n as u64
-}
-
 // The number of a read from the first `page` bytes of each buffer; 255 where a buffer is too short.
 fn ask<'a>(
     left: &'a [u8],
@@ -84,18 +72,18 @@ fn print_answer(number: u8) {
         io::write_all(STDOUT_FILENO, b"legal");
     } else {
         io::write_all(STDOUT_FILENO, b"number ");
-        io::print_decimal(STDOUT_FILENO, byte(number));
+        io::print_decimal(STDOUT_FILENO, number as u64);
     }
 }
 
 // Prints a vector with the library's answer, and says whether it is document 01's.
 fn run(page: usize, offset: u32, len: usize, number: u8) -> bool {
     io::write_all(STDOUT_FILENO, b"P ");
-    io::print_decimal(STDOUT_FILENO, long(page));
+    io::print_decimal(STDOUT_FILENO, page as u64);
     io::write_all(STDOUT_FILENO, b", offset ");
-    io::print_decimal(STDOUT_FILENO, wide(offset));
+    io::print_decimal(STDOUT_FILENO, offset as u64);
     io::write_all(STDOUT_FILENO, b", length ");
-    io::print_decimal(STDOUT_FILENO, long(len));
+    io::print_decimal(STDOUT_FILENO, len as u64);
     io::write_all(STDOUT_FILENO, b": ");
     let given = answer(page, offset, len);
     print_answer(given);

@@ -171,6 +171,17 @@ legal p q o n rest e =
       z .1,
     )
 
+-- and a request that fulfils it is given none of 1 to 4
+pub legal-none : (p q o n rest : ℕ) → Legal p q o n → requestNumber p q o n rest ≡ rest
+unfolding requestNumber spanNumber endNumber belowImage
+legal-none p q o n rest h =
+    simp (
+      pages-right p q (h .same) (h .evenPage) (h .least) (h .most),
+      both-even o n (h .evenOffset) (h .evenLength),
+      le-ltb o 4 (h .inImage),
+      ends-inside p o n (h .starts) (omega arith),
+    )
+
 -- ---- numbers that come after 1 to 4
 -- one of 1 to 4 is given whatever comes after it
 later : (t : Bool) (m k a b : ℕ) → (m ≡ a → m ≡ b) → m ≡ cond t k a → m ≡ cond t k b

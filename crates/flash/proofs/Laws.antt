@@ -15,7 +15,7 @@ use borrow.Author.Fill.{fill-more}
 use borrow.Author.Tests.{eqb-true, eqb-false, ltb-true, eq-eqb, ne-eqb, lt-ltb, le-ltb}
 use Rattle.flash.specs.declared.Cell.{Cell}
 use Rattle.flash.specs.declared.Cell.the-variants.{Holds, Outside}
-use Rattle.flash.specs.Flash.{isCell, cellAt, cellOf, stored, clears, fits, Programming, programmed, erasure, isErased}
+use Rattle.flash.specs.Flash.{isCell, cellAt, cellOf, stored, clears, fits, Outcome, programmed, erasure, isErased}
 
 -- both sides of a conjunction
 pub and-left : (a b : Bool) → (a && b) ≡ true → a ≡ true
@@ -89,15 +89,15 @@ fits-nowhere l i v e = simp (outside-cell l i e)
 
 -- the three ways a step ends, from a look at the cell and the test of its bits
 pub step-nowhere : (l : List ℕ) (i v : ℕ) → cellOf l i ≡ Outside
-    → _≡_ {A = Programming} (record { number = 6; bytes = l }) (programmed l i v)
+    → _≡_ {A = Outcome} (record { number = 6; bytes = l }) (programmed l i v)
 step-nowhere l i v e = sym (unfit l i v (fits-nowhere l i v e))
 
 pub step-unfit : (l : List ℕ) (i v old : ℕ) → cellOf l i ≡ Holds old → (bitAnd old v ≡ v → ⊥)
-    → _≡_ {A = Programming} (record { number = 6; bytes = l }) (programmed l i v)
+    → _≡_ {A = Outcome} (record { number = 6; bytes = l }) (programmed l i v)
 step-unfit l i v old e h = sym (unfit l i v (fits-cell l i v old e ∙ ne-eqb (bitAnd old v) v h))
 
 pub step-made : (l : List ℕ) (i v old : ℕ) → cellOf l i ≡ Holds old → bitAnd old v ≡ v
-    → _≡_ {A = Programming} (record { number = 0; bytes = stored l i (bitAnd old v) }) (programmed l i v)
+    → _≡_ {A = Outcome} (record { number = 0; bytes = stored l i (bitAnd old v) }) (programmed l i v)
 step-made l i v old e h =
     sym (made l i v (fits-cell l i v old e ∙ eq-eqb (bitAnd old v) v h)
     ∙ ap (λ (x : ℕ). record { number = 0; bytes = stored l i (bitAnd x v) }) (holds-cell l i old e .1))

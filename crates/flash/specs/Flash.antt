@@ -44,8 +44,8 @@ clears old new = eqb (bitAnd old new) new
 unfoldable pub fits : List ℕ → ℕ → ℕ → Bool
 fits l i v = isCell l i && clears (cellAt l i) v
 
--- a step's number (0: none) and the bytes after it
-pub record Programming : Type 0 where
+-- a call's number (0: none) and the lent bytes after it
+pub record Outcome : Type 0 where
   pub number : ℕ
   pub bytes : List ℕ
 
@@ -55,7 +55,7 @@ numberIn Made = 0
 numberIn Unfit = 6
 
 -- "every bit of the cell becomes old AND new. A step asked to turn a 0 bit into a 1 isn't made (refusal 6)"
-unfoldable pub programmed : List ℕ → ℕ → ℕ → Programming
+unfoldable pub programmed : List ℕ → ℕ → ℕ → Outcome
 programmed l i v =
     cond (fits l i v)
     (record { number = 0; bytes = stored l i (bitAnd (cellAt l i) v) })

@@ -5,7 +5,7 @@
 // specs/Flash.antt.
 ghost use mathlib.Core.Path.{_≡_};
 ghost use Rattle.flash.specs.Flash.{
-  Programming,
+  Outcome,
   cellNumber,
   cellOf,
   numberIn,
@@ -54,7 +54,7 @@ pub fn cell_at(page: &[u8], at: usize) -> Cell
 // a 1, or that names no cell, isn't made and changes nothing.
 pub fn program(page: &mut [u8], at: usize, value: u16) -> Programmed
     ensures { λ r.
-        ⌜ _≡_ {A = Programming}
+        ⌜ _≡_ {A = Outcome}
         (record { number = numberIn r; bytes = now (page .exit) })
         (programmed (now (page .entry)) at value) ⌝ }
 {

@@ -6,22 +6,15 @@ use mathlib.Core.Bool.{Bool, true, false, cond, not, _&&_, _||_}
 use mathlib.Core.List.{List, [], _∷_}
 use Prim.Native.Nat.{ℕ}
 use lib.Dec.{eqb}
-use Rattle.pages.specs.declared.Side.{Side}
-use Rattle.pages.specs.declared.Side.the-variants.{Left, Right}
 use Rattle.pages.specs.declared.Live.the-variants.{On}
 use Rattle.pages.specs.declared.Status.{Status}
 use Rattle.pages.specs.declared.Row.{Row}
-use Rattle.pages.specs.Pages.{table, hits, look, liveOf, statusOf, wordOf}
+use Rattle.pages.specs.Pages.{onSide, table, hits, look, liveOf, statusOf, wordOf}
 
 -- what holds of every row of a list
 abbrev pub All : (Row → Type 0) → List Row → Type 0
 All P [] = Unit {0}
 All P (x ∷ xs) = P x × All P xs
-
--- of two things, one a side, that on a side
-abbrev sideOf : Side → ℕ → ℕ → ℕ
-sideOf Left l r = l
-sideOf Right l r = r
 
 -- marked Valid and not Dead
 abbrev isValid : ℕ → Bool
@@ -32,10 +25,10 @@ abbrev leads : ℕ → ℕ → Bool
 leads w other = isValid w && (not (isValid other) || eqb w 0xFFFFFF00)
 
 abbrev liveWord : Row → ℕ
-liveWord x = sideOf (x .3) (x .0) (x .1)
+liveWord x = onSide (x .3) (x .0) (x .1)
 
 abbrev otherWord : Row → ℕ
-otherWord x = sideOf (x .3) (x .1) (x .0)
+otherWord x = onSide (x .3) (x .1) (x .0)
 
 -- the rule of a row: its words lead to it and to no other row, its state says its live side, and of its pages the live one leads
 abbrev pub Ruled : Row → Type 0

@@ -23,6 +23,11 @@ wordFrom valid active dead spare = valid + active * 256 + dead * 65536 + spare *
 unfoldable pub wordOf : List ℕ → ℕ
 wordOf page = wordFrom (getD page 0 0) (getD page 1 0) (getD page 2 0) (getD page 3 0)
 
+-- of two things, one for each side, the one on a side
+abbrev pub onSide : {A : Type 0} → Side → A → A → A
+onSide Left left right = left
+onSide Right left right = right
+
 abbrev pub row : ℕ → ℕ → State → Side → Row
 row left right state live = record { 0 = left; 1 = right; 2 = state; 3 = live }
 

@@ -11,12 +11,12 @@ use lib.Dec.{eqb}
 use lib.ListN.{length, take, drop, length-drop, length-take}
 use lib.Seq.{take-length, drop-length, length-take-le}
 use borrow.Author.Tests.{eq-eqb, ne-eqb}
-use Rattle.flash.specs.Flash.{erasure}
+use Rattle.flash.specs.Flash.{Outcome, erasure}
 use Rattle.pages.specs.declared.Side.{Side}
 use Rattle.pages.specs.declared.Side.the-variants.{Left, Right}
 use Rattle.pages.specs.declared.Live.{Live}
 use Rattle.pages.specs.declared.Live.the-variants.{Nowhere, On}
-use Rattle.pages.specs.Pages.{statusOf}
+use Rattle.pages.specs.Pages.{onSide, statusOf}
 use Rattle.requests.specs.declared.Refusal.{Refusal}
 use Rattle.requests.specs.declared.Refusal.the-variants.{PageLength, OddRequest, InManagement, PastEnd}
 use Rattle.requests.specs.Numbers.{numberOf, requestNumber}
@@ -24,11 +24,9 @@ use Rattle.requests.proofs.Laws.{Legal, legal, legal-then, refused-first, never
 use Rattle.reads.specs.Reads.{
   liveNumber,
   readNumber,
-  sidePage,
   livePage,
   readPart,
   outputAfter,
-  Filling,
   filled,
   Located,
   located,
@@ -101,26 +99,26 @@ no-part l r o n f e h =
     sym (simp (ne-eqb (readNumber l r o n) 0 (λ z. h (found-number l r o n f e ∙ z))))
 
 pub on-part : (l r : List ℕ) (o n : ℕ) (s : Side) → _≡_ {A = Located} (record { number = 0; live = On s }) (located l r o n)
-    → take n (drop o (sidePage s l r)) ≡ readPart l r o n
+    → take n (drop o (onSide s l r)) ≡ readPart l r o n
 unfolding readPart
 on-part l r o n s e = sym (simp (on-number l r o n s e, on-live l r o n s e))
 
 -- the bytes from o to o + n of the page on a side
 pub side-part : (l r : List ℕ) (o n : ℕ) (s t : Side) → s ≡ t
-    → take (o + n - o) (drop o (sidePage t l r)) ≡ take n (drop o (sidePage s l r))
+    → take (o + n - o) (drop o (onSide t l r)) ≡ take n (drop o (onSide s l r))
 side-part l r o n s t e = rw (add-sub-cancel-left o n, e)
 
 -- a page of a legal request holds the asked bytes
-side-length : (l r : List ℕ) (s : Side) → length l ≡ length r → length (sidePage s l r) ≡ length l
+side-length : (l r : List ℕ) (s : Side) → length l ≡ length r → length (onSide s l r) ≡ length l
 side-length l r Left e = refl
 side-length l r Right e = sym e
 
 pub part-length : (l r : List ℕ) (o n : ℕ) (s : Side) → _≡_ {A = Located} (record { number = 0; live = On s }) (located l r o n)
-    → length (take n (drop o (sidePage s l r))) ≡ n
+    → length (take n (drop o (onSide s l r))) ≡ n
 part-length l r o n s e =
     let h = on-legal l r o n s e in
-    let k : length (sidePage s l r) ≡ length l = side-length l r s (h .same) in
-    length-take-le n (drop o (sidePage s l r)) (simp length-drop (omega arith))
+    let k : length (onSide s l r) ≡ length l = side-length l r s (h .same) in
+    length-take-le n (drop o (onSide s l r)) (simp length-drop (omega arith))
 
 -- a copy of as many bytes as the output has is those bytes
 copied : (src out : List ℕ) → length src ≡ length out → take (length src) src ++ drop (length src) out ≡ src
@@ -131,14 +129,14 @@ copied src out e =
 -- ---- the output after each answer
 filling : (l r : List ℕ) (o k : ℕ) (out bytes : List ℕ) → k ≡ readNumber l r o (length out)
     → bytes ≡ outputAfter k (readPart l r o (length out)) out
-    → _≡_ {A = Filling} (record { number = k; bytes = bytes }) (filled l r o out)
+    → _≡_ {A = Outcome} (record { number = k; bytes = bytes }) (filled l r o out)
 unfolding filled
 filling l r o k out bytes p q =
     λ i. record { number = p i; bytes = (q ∙ ap (λ (x : ℕ). outputAfter x (readPart l r o (length out)) out) p) i }
 
 pub kept : (l r : List ℕ) (o : ℕ) (out : List ℕ) (why : Refusal)
     → _≡_ {A = Located} (record { number = numberOf why; live = Nowhere }) (located l r o (length out))
-    → _≡_ {A = Filling} (record { number = numberOf why; bytes = out }) (filled l r o out)
+    → _≡_ {A = Outcome} (record { number = numberOf why; bytes = out }) (filled l r o out)
 unfolding outputAfter
 kept l r o out why e =
     filling l r o (numberOf why) out out
@@ -147,16 +145,16 @@ kept l r o out why e =
 
 pub blank : (l r : List ℕ) (o : ℕ) (out bytes : List ℕ)
     → _≡_ {A = Located} (record { number = 5; live = Nowhere }) (located l r o (length out)) → bytes ≡ erasure out
-    → _≡_ {A = Filling} (record { number = 5; bytes = bytes }) (filled l r o out)
+    → _≡_ {A = Outcome} (record { number = 5; bytes = bytes }) (filled l r o out)
 unfolding outputAfter
 blank l r o out bytes e h =
     filling l r o 5 out bytes (found-number l r o (length out) (record { number = 5; live = Nowhere }) e) h
 
 pub given : (l r : List ℕ) (o : ℕ) (s : Side) (out src bytes : List ℕ)
     → _≡_ {A = Located} (record { number = 0; live = On s }) (located l r o (length out))
-    → src ≡ take (length out) (drop o (sidePage s l r))
+    → src ≡ take (length out) (drop o (onSide s l r))
     → bytes ≡ take (length src) src ++ drop (length src) out
-    → _≡_ {A = Filling} (record { number = 0; bytes = bytes }) (filled l r o out)
+    → _≡_ {A = Outcome} (record { number = 0; bytes = bytes }) (filled l r o out)
 unfolding outputAfter
 given l r o s out src bytes e p q =
     filling l r o 0 out bytes (found-number l r o (length out) (record { number = 0; live = On s }) e)

@@ -6,12 +6,10 @@ use mathlib.Core.Bool.{Bool, cond}
 use mathlib.Core.List.{List, []}
 use lib.Dec.{eqb}
 use lib.ListN.{length, take, drop}
-use Rattle.flash.specs.Flash.{erasure}
-use Rattle.pages.specs.declared.Side.{Side}
-use Rattle.pages.specs.declared.Side.the-variants.{Left, Right}
+use Rattle.flash.specs.Flash.{Outcome, erasure}
 use Rattle.pages.specs.declared.Live.{Live}
 use Rattle.pages.specs.declared.Live.the-variants.{Nowhere, On}
-use Rattle.pages.specs.Pages.{statusOf}
+use Rattle.pages.specs.Pages.{onSide, statusOf}
 use Rattle.requests.specs.Numbers.{numberOf, requestNumber}
 use Rattle.reads.specs.declared.Reading as R
 use Rattle.reads.specs.declared.Reading.{Reading}
@@ -33,15 +31,10 @@ liveNumber (On s) = 0
 unfoldable pub readNumber : List ℕ → List ℕ → ℕ → ℕ → ℕ
 readNumber l r o n = requestNumber (length l) (length r) o n (liveNumber (statusOf l r .live))
 
--- the page on a side
-abbrev pub sidePage : Side → List ℕ → List ℕ → List ℕ
-sidePage Left l r = l
-sidePage Right l r = r
-
 -- the live page, or nothing
 abbrev pub livePage : Live → List ℕ → List ℕ → List ℕ
 livePage Nowhere l r = []
-livePage (On s) l r = sidePage s l r
+livePage (On s) l r = onSide s l r
 
 -- the first read: "the asked part of the live page itself", counted from byte 0 of the page; "empty on every refusal"
 unfoldable pub readPart : List ℕ → List ℕ → ℕ → ℕ → List ℕ
@@ -51,13 +44,8 @@ readPart l r o n = cond (eqb (readNumber l r o n) 0) (take n (drop o (livePage (
 unfoldable pub outputAfter : ℕ → List ℕ → List ℕ → List ℕ
 outputAfter number asked out = cond (eqb number 0) asked (cond (eqb number 5) (erasure out) out)
 
--- a copying read's number (0: none) and its output afterwards
-pub record Filling : Type 0 where
-  pub number : ℕ
-  pub bytes : List ℕ
-
--- the second read: "the length asked for is the output's own"
-unfoldable pub filled : List ℕ → List ℕ → ℕ → List ℕ → Filling
+-- the second read, its number and the output afterwards: "the length asked for is the output's own"
+unfoldable pub filled : List ℕ → List ℕ → ℕ → List ℕ → Outcome
 filled l r o out =
     record {
       number = readNumber l r o (length out);

@@ -12,15 +12,15 @@ use requests::Refusal;
 ghost use mathlib.Core.Path.{_≡_};
 ghost use Prim.Native.Nat.{_+_, _≤_};
 ghost use lib.ListN.{length, take, drop};
+ghost use Rattle.flash.specs.Flash.{Outcome};
+ghost use Rattle.pages.specs.Pages.{onSide};
 ghost use Rattle.reads.specs.Reads.{
   numberIn,
-  sidePage,
   Located,
   foundIn,
   located,
   readNumber,
   readPart,
-  Filling,
   filled,
 };
 
@@ -74,7 +74,7 @@ fn part<'a>(left: &'a [u8], right: &'a [u8], side: Side, offset: PageOffset, len
     requires { ⌜ (offset .0 + len ≤ length (now left)) × (offset .0 + len ≤ length (now right)) ⌝ }
     ensures { λ r.
         ⌜ now r
-        ≡ take len (drop (offset .0) (sidePage side (now (left .entry)) (now (right .entry)))) ⌝ }
+        ≡ take len (drop (offset .0) (onSide side (now (left .entry)) (now (right .entry)))) ⌝ }
 {
     let start = offset.0 as usize;
     let end = start + len;
@@ -113,7 +113,7 @@ pub fn read<'a>(left: &'a [u8], right: &'a [u8], offset: PageOffset, len: u32) -
 // as it was; 5 fills it with FF.
 pub fn read_into<'a>(left: &'a [u8], right: &'a [u8], offset: PageOffset, out: &mut [u8]) -> Reading
     ensures { λ r.
-        ⌜ _≡_ {A = Filling} (record { number = numberIn r; bytes = now (out .exit) })
+        ⌜ _≡_ {A = Outcome} (record { number = numberIn r; bytes = now (out .exit) })
         (filled (now (left .entry)) (now (right .entry)) (offset .0) (now (out .entry))) ⌝ }
 {
     let size = out.len();

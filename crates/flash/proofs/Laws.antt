@@ -1,5 +1,5 @@
 -- Laws of cells, programming and erasing: callers use these and never the text of the definitions.
--- In order: Booleans; cells; programming; erasing; the erased test.
+-- In order: answers and Booleans; cells; programming; erasing; the erased test.
 -- Not here: laws of lists (lib.Seq, lib.ListN) and of bits (lib.Bits). Assumes nothing.
 use Prim.Native.Nat.{ℕ, zero, suc, _+_, _-_, _*_, _^_, _%_, _/_, _<_, _≤_}
 use mathlib.Core.Path.{_≡_, refl, sym, ap, ap₂, _∙_}
@@ -15,7 +15,22 @@ use borrow.Author.Fill.{fill-more}
 use borrow.Author.Tests.{eqb-true, eqb-false, ltb-true, eq-eqb, ne-eqb, lt-ltb, le-ltb}
 use Rattle.flash.specs.declared.Cell.{Cell}
 use Rattle.flash.specs.declared.Cell.the-variants.{Holds, Outside}
-use Rattle.flash.specs.Flash.{isCell, cellAt, cellOf, stored, clears, fits, Outcome, programmed, erasure, isErased}
+use Rattle.flash.specs.Flash.{
+  isCell,
+  cellAt,
+  cellOf,
+  stored,
+  clears,
+  fits,
+  Outcome,
+  programmed,
+  erasure,
+  isErased,
+}
+
+-- what is promised of a call's answer, once a `match` has told which case it is
+pub told : {A B : Type 0} (f : A → B) {x y : A} {z : B} → x ≡ y → f x ≡ z → f y ≡ z
+told f e h = ap f (sym e) ∙ h
 
 -- both sides of a conjunction
 pub and-left : (a b : Bool) → (a && b) ≡ true → a ≡ true
@@ -56,7 +71,8 @@ pub holds-cell : (l : List ℕ) (i v : ℕ) → cellOf l i ≡ Holds v → (isCe
 unfolding cellOf
 holds-cell l i v = go (isCell l i) refl
   where
-    go : (t : Bool) → isCell l i ≡ t → cond t (Holds (cellAt l i)) Outside ≡ Holds v → (isCell l i ≡ true) × (cellAt l i ≡ v)
+    go : (t : Bool) → isCell l i ≡ t → cond t (Holds (cellAt l i)) Outside ≡ Holds v
+        → (isCell l i ≡ true) × (cellAt l i ≡ v)
     go true q e = (q, cc)
     go false q e = (cc, cc)
 
@@ -137,7 +153,8 @@ pub fill-step : (l₀ l : List ℕ) (i : ℕ) → i < length l₀ → l ≡ repl
     → set l i 255 ≡ replicate (i + 1) 255 ++ drop (i + 1) l₀
 fill-step l₀ l i h e = ap (λ (k : List ℕ). set k i 255) e ∙ fill-more i 255 l₀ h
 
-pub filled : (l₀ l : List ℕ) (i : ℕ) → i ≤ length l₀ → length l₀ ≤ i → l ≡ replicate i 255 ++ drop i l₀ → l ≡ erasure l₀
+pub filled : (l₀ l : List ℕ) (i : ℕ) → i ≤ length l₀ → length l₀ ≤ i → l ≡ replicate i 255 ++ drop i l₀
+    → l ≡ erasure l₀
 unfolding erasure
 filled l₀ l i h k e =
     let n : i ≡ length l₀ = omega arith in

@@ -1,6 +1,8 @@
--- Cells and flash steps over a list of bytes: a page, or any part of one (document 01, "Pages, cells" and "Flash steps").
+-- Cells and flash steps over a list of bytes: a page, or any part of one (document 01, "Pages,
+-- cells" and "Flash steps").
 -- In order: cells and their numbers; programming; erasing; the erased test.
--- Not here: which bytes of a page are management and which are image (the crate pages). Laws: proofs/Laws.antt.
+-- Not here: which bytes of a page are management and which are image (the crate pages). Laws:
+-- proofs/Laws.antt.
 -- Assumes nothing.
 use Prim.Native.Nat.{ℕ, _+_, _*_, _/_, _%_}
 use mathlib.Core.Bool.{Bool, true, false, cond, _&&_}
@@ -54,7 +56,8 @@ abbrev pub numberIn : Programmed → ℕ
 numberIn Made = 0
 numberIn Unfit = 6
 
--- "every bit of the cell becomes old AND new. A step asked to turn a 0 bit into a 1 isn't made (refusal 6)"
+-- "every bit of the cell becomes old AND new. A step asked to turn a 0 bit into a 1 isn't made
+-- (refusal 6)"
 unfoldable pub programmed : List ℕ → ℕ → ℕ → Outcome
 programmed l i v =
     cond (fits l i v)

@@ -1,5 +1,6 @@
--- The rule of document 01's table, proved once over the table: each row is found by its own words, its live side is that of its
--- state, and the live page is the one that its marks say. From it, the live side of any two pages is that of their state.
+-- The rule of document 01's table, proved once over the table: each row is found by its own words, its live side is
+-- that of its state, and the live page is the one that its marks say. From it, the live side of any two pages is that
+-- of their state.
 -- Assumes nothing.
 use mathlib.Core.Path.{_≡_, refl, sym}
 use mathlib.Core.Bool.{Bool, true, false, cond, not, _&&_, _||_}
@@ -30,7 +31,8 @@ liveWord x = onSide (x .3) (x .0) (x .1)
 abbrev otherWord : Row → ℕ
 otherWord x = onSide (x .3) (x .1) (x .0)
 
--- the rule of a row: its words lead to it and to no other row, its state says its live side, and of its pages the live one leads
+-- the rule of a row: its words lead to it and to no other row, its state says its live side, and of its pages the live
+-- one leads
 abbrev pub Ruled : Row → Type 0
 Ruled x =
     (look table (x .0) (x .1) ≡ (record { state = x .2; live = On (x .3) }))

@@ -31,7 +31,8 @@ onSide Right left right = right
 abbrev pub row : ℕ → ℕ → State → Side → Row
 row left right state live = record { 0 = left; 1 = right; 2 = state; 3 = live }
 
--- the table of "Which page is live": the word of LEFT, the word of RIGHT, the state, the live side; S1 is lines 1 and 4, which hold the same words
+-- the table of "Which page is live": the word of LEFT, the word of RIGHT, the state, the live side;
+-- S1 is lines 1 and 4, which hold the same words
 abbrev pub table : List Row
 table =
     row 0xFFFF0000 0xFFFFFFFF S1 Left

@@ -100,8 +100,8 @@ fn pick(row: Row, left: u32, right: u32, rest: Status) -> Status
     }
 }
 
-// The state of a pair of words, and its live side: those of the table's row with these words, or S0.
-// The rows are gone through from the last to the first: compiled, the table is then constants.
+// The state of a pair of words, and its live side: those of the table's row with these words, or
+// S0. The rows are gone through from the last to the first: compiled, the table is then constants.
 fn look_up(left: u32, right: u32) -> Status
     ensures { λ r. ⌜ r ≡ look table left right ⌝ }
 {

@@ -1,5 +1,5 @@
--- The starred examples of document 01 ("Checked examples, P = 8"), what they say of lines, numbers and reads: one table under one
--- proof, by computation on the definitions that the contracts cite.
+-- The starred examples of document 01 ("Checked examples, P = 8"), what they say of lines, numbers and reads: one table
+-- under one proof, by computation on the definitions that the contracts cite.
 -- Not here: the steps that lead from one pair of pages to the next. Assumes nothing.
 use Prim.Native.Nat.{ℕ}
 use mathlib.Core.Path.{_≡_, refl}
@@ -77,5 +77,6 @@ examples =
     ∷ []
 
 pub examples-right : map answer examples ≡ map (λ (e : Example). e .expected) examples
-unfolding wordOf look statusOf erasure wrongPages oddRequest belowImage pastEnd endNumber spanNumber requestNumber filled readNumber readPart outputAfter
+unfolding wordOf look statusOf erasure wrongPages oddRequest belowImage pastEnd endNumber spanNumber requestNumber
+    filled readNumber readPart outputAfter
 examples-right = refl

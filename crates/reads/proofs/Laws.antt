@@ -18,9 +18,8 @@ use Rattle.pages.specs.declared.Live.{Live}
 use Rattle.pages.specs.declared.Live.the-variants.{Nowhere, On}
 use Rattle.pages.specs.Pages.{onSide, statusOf}
 use Rattle.requests.specs.declared.Refusal.{Refusal}
-use Rattle.requests.specs.declared.Refusal.the-variants.{PageLength, OddRequest, InManagement, PastEnd}
 use Rattle.requests.specs.Numbers.{numberOf, requestNumber}
-use Rattle.requests.proofs.Laws.{Legal, legal, legal-then, refused-first, never-none}
+use Rattle.requests.proofs.Laws.{Legal, legal, legal-then, refused-first, one-to-four, never-none}
 use Rattle.reads.specs.Reads.{
   liveNumber,
   readNumber,
@@ -29,6 +28,9 @@ use Rattle.reads.specs.Reads.{
   outputAfter,
   filled,
   Located,
+  refusedBy,
+  noneLive,
+  liveOn,
   located,
 }
 
@@ -40,54 +42,52 @@ unfolding located
 at-number l r o n k live p q = λ i. record { number = p i; live = q i }
 
 pub found-refused : (l r : List ℕ) (o n : ℕ) (why : Refusal) → numberOf why ≡ requestNumber (length l) (length r) o n 0
-    → _≡_ {A = Located} (record { number = numberOf why; live = Nowhere }) (located l r o n)
+    → refusedBy why ≡ located l r o n
 unfolding readNumber
 found-refused l r o n why e =
-    let k : numberOf why ≡ readNumber l r o n = refused-first (length l) (length r) o n (liveNumber (statusOf l r .live)) why e in
+    let k : numberOf why ≡ readNumber l r o n =
+    refused-first (length l) (length r) o n (liveNumber (statusOf l r .live)) why e in
     at-number l r o n (numberOf why) Nowhere k
     (sym (simp (ne-eqb (readNumber l r o n) 0 (λ z. never-none why (k ∙ z)))))
 
 -- a legal read has number 5 or none
-legal-number : (l r : List ℕ) (o n : ℕ) (v : Live) → requestNumber (length l) (length r) o n 0 ≡ 0 → statusOf l r .live ≡ v
-    → readNumber l r o n ≡ liveNumber v
+legal-number : (l r : List ℕ) (o n : ℕ) (v : Live) → requestNumber (length l) (length r) o n 0 ≡ 0
+    → statusOf l r .live ≡ v → readNumber l r o n ≡ liveNumber v
 unfolding readNumber
 legal-number l r o n v e h = legal-then (length l) (length r) o n (liveNumber (statusOf l r .live)) e ∙ ap liveNumber h
 
 pub found-none : (l r : List ℕ) (o n : ℕ) → requestNumber (length l) (length r) o n 0 ≡ 0 → statusOf l r .live ≡ Nowhere
-    → _≡_ {A = Located} (record { number = 5; live = Nowhere }) (located l r o n)
+    → noneLive ≡ located l r o n
 found-none l r o n e h =
     let k = legal-number l r o n Nowhere e h in
     at-number l r o n 5 Nowhere (sym k) (sym (simp k))
 
-pub found-on : (l r : List ℕ) (o n : ℕ) (s : Side) → requestNumber (length l) (length r) o n 0 ≡ 0 → statusOf l r .live ≡ On s
-    → _≡_ {A = Located} (record { number = 0; live = On s }) (located l r o n)
+pub found-on : (l r : List ℕ) (o n : ℕ) (s : Side) → requestNumber (length l) (length r) o n 0 ≡ 0
+    → statusOf l r .live ≡ On s → liveOn s ≡ located l r o n
 found-on l r o n s e h =
     let k = legal-number l r o n (On s) e h in
     at-number l r o n 0 (On s) (sym k) (sym (simp (k, h)))
 
 -- ---- what follows
 never-five : (why : Refusal) → numberOf why ≡ 5 → ⊥
-never-five PageLength e = omega (arith, e)
-never-five OddRequest e = omega (arith, e)
-never-five InManagement e = omega (arith, e)
-never-five PastEnd e = omega (arith, e)
+never-five why e = omega (arith, one-to-four why)
 
 pub found-number : (l r : List ℕ) (o n : ℕ) (f : Located) → f ≡ located l r o n → f .number ≡ readNumber l r o n
 unfolding located
 found-number l r o n f e = ap (λ (x : Located). x .number) e
 
 -- a found page is the live one, and the request is legal
-on-number : (l r : List ℕ) (o n : ℕ) (s : Side) → _≡_ {A = Located} (record { number = 0; live = On s }) (located l r o n)
+on-number : (l r : List ℕ) (o n : ℕ) (s : Side) → liveOn s ≡ located l r o n
     → readNumber l r o n ≡ 0
-on-number l r o n s e = sym (found-number l r o n (record { number = 0; live = On s }) e)
+on-number l r o n s e = sym (found-number l r o n (liveOn s) e)
 
-on-live : (l r : List ℕ) (o n : ℕ) (s : Side) → _≡_ {A = Located} (record { number = 0; live = On s }) (located l r o n)
+on-live : (l r : List ℕ) (o n : ℕ) (s : Side) → liveOn s ≡ located l r o n
     → statusOf l r .live ≡ On s
 unfolding located
 on-live l r o n s e =
     sym (ap (λ (x : Located). x .live) e ∙ (simp (on-number l r o n s e)))
 
-pub on-legal : (l r : List ℕ) (o n : ℕ) (s : Side) → _≡_ {A = Located} (record { number = 0; live = On s }) (located l r o n)
+pub on-legal : (l r : List ℕ) (o n : ℕ) (s : Side) → liveOn s ≡ located l r o n
     → Legal (length l) (length r) o n
 unfolding readNumber
 on-legal l r o n s e = legal (length l) (length r) o n (liveNumber (statusOf l r .live)) (on-number l r o n s e) .0
@@ -98,7 +98,7 @@ unfolding readPart
 no-part l r o n f e h =
     sym (simp (ne-eqb (readNumber l r o n) 0 (λ z. h (found-number l r o n f e ∙ z))))
 
-pub on-part : (l r : List ℕ) (o n : ℕ) (s : Side) → _≡_ {A = Located} (record { number = 0; live = On s }) (located l r o n)
+pub on-part : (l r : List ℕ) (o n : ℕ) (s : Side) → liveOn s ≡ located l r o n
     → take n (drop o (onSide s l r)) ≡ readPart l r o n
 unfolding readPart
 on-part l r o n s e = sym (simp (on-number l r o n s e, on-live l r o n s e))
@@ -113,7 +113,7 @@ side-length : (l r : List ℕ) (s : Side) → length l ≡ length r → length (
 side-length l r Left e = refl
 side-length l r Right e = sym e
 
-pub part-length : (l r : List ℕ) (o n : ℕ) (s : Side) → _≡_ {A = Located} (record { number = 0; live = On s }) (located l r o n)
+part-length : (l r : List ℕ) (o n : ℕ) (s : Side) → liveOn s ≡ located l r o n
     → length (take n (drop o (onSide s l r))) ≡ n
 part-length l r o n s e =
     let h = on-legal l r o n s e in
@@ -135,27 +135,27 @@ filling l r o k out bytes p q =
     λ i. record { number = p i; bytes = (q ∙ ap (λ (x : ℕ). outputAfter x (readPart l r o (length out)) out) p) i }
 
 pub kept : (l r : List ℕ) (o : ℕ) (out : List ℕ) (why : Refusal)
-    → _≡_ {A = Located} (record { number = numberOf why; live = Nowhere }) (located l r o (length out))
+    → refusedBy why ≡ located l r o (length out)
     → _≡_ {A = Outcome} (record { number = numberOf why; bytes = out }) (filled l r o out)
 unfolding outputAfter
 kept l r o out why e =
     filling l r o (numberOf why) out out
-    (found-number l r o (length out) (record { number = numberOf why; live = Nowhere }) e)
+    (found-number l r o (length out) (refusedBy why) e)
     (sym (simp (ne-eqb (numberOf why) 0 (never-none why), ne-eqb (numberOf why) 5 (never-five why))))
 
 pub blank : (l r : List ℕ) (o : ℕ) (out bytes : List ℕ)
-    → _≡_ {A = Located} (record { number = 5; live = Nowhere }) (located l r o (length out)) → bytes ≡ erasure out
+    → noneLive ≡ located l r o (length out) → bytes ≡ erasure out
     → _≡_ {A = Outcome} (record { number = 5; bytes = bytes }) (filled l r o out)
 unfolding outputAfter
 blank l r o out bytes e h =
-    filling l r o 5 out bytes (found-number l r o (length out) (record { number = 5; live = Nowhere }) e) h
+    filling l r o 5 out bytes (found-number l r o (length out) noneLive e) h
 
 pub given : (l r : List ℕ) (o : ℕ) (s : Side) (out src bytes : List ℕ)
-    → _≡_ {A = Located} (record { number = 0; live = On s }) (located l r o (length out))
+    → liveOn s ≡ located l r o (length out)
     → src ≡ take (length out) (drop o (onSide s l r))
     → bytes ≡ take (length src) src ++ drop (length src) out
     → _≡_ {A = Outcome} (record { number = 0; bytes = bytes }) (filled l r o out)
 unfolding outputAfter
 given l r o s out src bytes e p q =
-    filling l r o 0 out bytes (found-number l r o (length out) (record { number = 0; live = On s }) e)
+    filling l r o 0 out bytes (found-number l r o (length out) (liveOn s) e)
     (q ∙ copied src out (ap length p ∙ part-length l r o (length out) s e) ∙ p ∙ on-part l r o (length out) s e)

@@ -1,15 +1,20 @@
--- The two reads (document 01, "Reading") and their numbers ("Numbers the board gives back": 1 to 4, then 5).
--- In order: the number of each answer; the numbers of a read; the part handed back; the output filled; where a read finds its bytes.
--- Not here: numbers 1 to 4 (the crate requests), which page is live (pages). Laws: proofs/Laws.antt. Assumes nothing.
+-- The two reads (document 01, "Reading") and their numbers ("Numbers the board gives back": 1 to 4,
+-- then 5).
+-- In order: the number of each answer; the numbers of a read; the part handed back; the output
+-- filled; where a read finds its bytes.
+-- Not here: numbers 1 to 4 (the crate requests), which page is live (pages). Laws:
+-- proofs/Laws.antt. Assumes nothing.
 use Prim.Native.Nat.{ℕ}
 use mathlib.Core.Bool.{Bool, cond}
 use mathlib.Core.List.{List, []}
 use lib.Dec.{eqb}
 use lib.ListN.{length, take, drop}
 use Rattle.flash.specs.Flash.{Outcome, erasure}
+use Rattle.pages.specs.declared.Side.{Side}
 use Rattle.pages.specs.declared.Live.{Live}
 use Rattle.pages.specs.declared.Live.the-variants.{Nowhere, On}
 use Rattle.pages.specs.Pages.{onSide, statusOf}
+use Rattle.requests.specs.declared.Refusal.{Refusal}
 use Rattle.requests.specs.Numbers.{numberOf, requestNumber}
 use Rattle.reads.specs.declared.Reading as R
 use Rattle.reads.specs.declared.Reading.{Reading}
@@ -36,11 +41,16 @@ abbrev pub livePage : Live → List ℕ → List ℕ → List ℕ
 livePage Nowhere l r = []
 livePage (On s) l r = onSide s l r
 
--- the first read: "the asked part of the live page itself", counted from byte 0 of the page; "empty on every refusal"
+-- the first read: "the asked part of the live page itself", counted from byte 0 of the page; "empty
+-- on every refusal"
 unfoldable pub readPart : List ℕ → List ℕ → ℕ → ℕ → List ℕ
-readPart l r o n = cond (eqb (readNumber l r o n) 0) (take n (drop o (livePage (statusOf l r .live) l r))) []
+readPart l r o n =
+    cond (eqb (readNumber l r o n) 0)
+    (take n (drop o (livePage (statusOf l r .live) l r)))
+    []
 
--- what a lent output holds after a number: the asked bytes where none is given, FF after 5, else what it held
+-- what a lent output holds after a number: the asked bytes where none is given, FF after 5, else
+-- what it held
 unfoldable pub outputAfter : ℕ → List ℕ → List ℕ → List ℕ
 outputAfter number asked out = cond (eqb number 0) asked (cond (eqb number 5) (erasure out) out)
 
@@ -57,10 +67,19 @@ pub record Located : Type 0 where
   pub number : ℕ
   pub live : Live
 
+abbrev pub refusedBy : Refusal → Located
+refusedBy why = record { number = numberOf why; live = Nowhere }
+
+abbrev pub noneLive : Located
+noneLive = record { number = 5; live = Nowhere }
+
+abbrev pub liveOn : Side → Located
+liveOn s = record { number = 0; live = On s }
+
 abbrev pub foundIn : Found → Located
-foundIn (F.the-variants.Refused why) = record { number = numberOf why; live = Nowhere }
-foundIn F.the-variants.NoLive = record { number = 5; live = Nowhere }
-foundIn (F.the-variants.On s) = record { number = 0; live = On s }
+foundIn (F.the-variants.Refused why) = refusedBy why
+foundIn F.the-variants.NoLive = noneLive
+foundIn (F.the-variants.On s) = liveOn s
 
 unfoldable pub located : List ℕ → List ℕ → ℕ → ℕ → Located
 located l r o n =

@@ -1,9 +1,9 @@
 // The two reads: one hands back the asked part of the live page itself, the other fills a lent
 // output.
 //
-// Both are total: any bytes, any lengths, any offset. Neither changes a page. The numbers are tested
-// before a byte of a page is looked at, and only a copy goes through the asked bytes. What each
-// answer means is in specs/Reads.antt.
+// Both are total: any bytes, any lengths, any offset. Neither changes a page. The numbers are
+// tested before a byte of a page is looked at, and only a copy goes through the asked bytes. What
+// each answer means is in specs/Reads.antt.
 use pages::Live;
 use pages::PageOffset;
 use pages::Side;

@@ -5,7 +5,7 @@ use Prim.Native.Nat.{ℕ, suc, _+_, _-_, _%_, _<_, _≤_}
 use mathlib.Core.Path.{_≡_, refl, sym, ap, _∙_}
 use mathlib.Core.Bool.{Bool, true, false, cond, not, _||_}
 use native.Mathlib.Omega.{arith}
-use lib.Dec.{eqb, ltb, leb}
+use lib.Dec.{eqb, ltb, leb, lit≤}
 use borrow.Author.Tests.{eqb-true, ltb-false, leb-false, not-false, eq-eqb, ne-eqb, lt-ltb, le-ltb, le-leb, lt-leb}
 use Rattle.pages.specs.declared.PageOffset.{PageOffset}
 use Rattle.pages.specs.declared.ImageOffset.{ImageOffset}
@@ -15,7 +15,17 @@ use Rattle.pages.proofs.Laws.{management-below, image-at}
 use Rattle.flash.specs.Flash.{isEven}
 use Rattle.requests.specs.declared.Refusal.{Refusal}
 use Rattle.requests.specs.declared.Refusal.the-variants.{PageLength, OddRequest, InManagement, PastEnd}
-use Rattle.requests.specs.Numbers.{numberOf, wrongPages, oddRequest, belowImage, pastEnd, endNumber, spanNumber, requestNumber, pagesNumber}
+use Rattle.requests.specs.Numbers.{
+  numberOf,
+  wrongPages,
+  oddRequest,
+  belowImage,
+  pastEnd,
+  endNumber,
+  spanNumber,
+  requestNumber,
+  pagesNumber,
+}
 
 -- ---- from facts to each case
 pub pages-differ : (p q : ℕ) → (p ≡ q → ⊥) → wrongPages p q ≡ true
@@ -93,7 +103,8 @@ pub three : (p o n rest : ℕ) → oddRequest o n ≡ false → belowImage o ≡
 unfolding spanNumber
 three p o n rest e h = simp (e, h)
 
-pub not-three : (p o n rest : ℕ) → oddRequest o n ≡ false → belowImage o ≡ false → endNumber p o n rest ≡ spanNumber p o n rest
+pub not-three : (p o n rest : ℕ) → oddRequest o n ≡ false → belowImage o ≡ false
+    → endNumber p o n rest ≡ spanNumber p o n rest
 unfolding spanNumber
 not-three p o n rest e h = simp (e, h)
 
@@ -106,13 +117,17 @@ unfolding endNumber
 not-four p o n rest e = simp e
 
 -- the pages' number comes first, and the others where the pages give none
-pub never-none : (why : Refusal) → numberOf why ≡ 0 → ⊥
-never-none PageLength e = omega (arith, e)
-never-none OddRequest e = omega (arith, e)
-never-none InManagement e = omega (arith, e)
-never-none PastEnd e = omega (arith, e)
+pub one-to-four : (why : Refusal) → (1 ≤ numberOf why) × (numberOf why ≤ 4)
+one-to-four PageLength = (lit≤ tt, lit≤ tt)
+one-to-four OddRequest = (lit≤ tt, lit≤ tt)
+one-to-four InManagement = (lit≤ tt, lit≤ tt)
+one-to-four PastEnd = (lit≤ tt, lit≤ tt)
 
-pub pages-first : (p q o n rest : ℕ) (why : Refusal) → numberOf why ≡ pagesNumber p q → numberOf why ≡ requestNumber p q o n rest
+pub never-none : (why : Refusal) → numberOf why ≡ 0 → ⊥
+never-none why e = omega (arith, one-to-four why)
+
+pub pages-first : (p q o n rest : ℕ) (why : Refusal) → numberOf why ≡ pagesNumber p q
+    → numberOf why ≡ requestNumber p q o n rest
 unfolding pagesNumber requestNumber
 pages-first p q o n rest why = go (wrongPages p q)
   where

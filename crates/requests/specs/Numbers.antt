@@ -1,12 +1,19 @@
--- Numbers 1 to 4, "checked in this order, first hit wins" (document 01, "Numbers the board gives back").
+-- Numbers 1 to 4, "checked in this order, first hit wins" (document 01, "Numbers the board gives
+-- back").
 -- In order: the number of each answer; the four cases; the numbers. A number that isn't given is 0.
--- Not here: number 5, a read's (the crate reads), and 6, a step's. Laws: proofs/Laws.antt. Assumes nothing.
+-- Not here: number 5, a read's (the crate reads), and 6, a step's. Laws: proofs/Laws.antt. Assumes
+-- nothing.
 use Prim.Native.Nat.{ℕ, _+_}
 use mathlib.Core.Bool.{Bool, cond, not, _||_}
 use lib.Dec.{eqb, ltb, leb}
 use Rattle.flash.specs.Flash.{isEven}
 use Rattle.requests.specs.declared.Refusal.{Refusal}
-use Rattle.requests.specs.declared.Refusal.the-variants.{PageLength, OddRequest, InManagement, PastEnd}
+use Rattle.requests.specs.declared.Refusal.the-variants.{
+  PageLength,
+  OddRequest,
+  InManagement,
+  PastEnd,
+}
 use Rattle.requests.specs.declared.Check.{Check}
 use Rattle.requests.specs.declared.Check.the-variants.{Legal, Refused}
 

@@ -1,5 +1,5 @@
--- `flash::erased` meets its contract. The loop's invariant: the page is erased exactly if the bytes before i, ANDed, are FF
--- and the bytes from i on are erased. Assumes nothing.
+-- `flash::erased` meets its contract. The loop's invariant: the page is erased exactly if the bytes before i, ANDed,
+-- are FF and the bytes from i on are erased. Assumes nothing.
 use Prim.Native.Nat.{_≤_, _-_}
 use mathlib.Core.Bool.{_&&_}
 use mathlib.Core.Path.{_≡_, refl}

@@ -1,8 +1,8 @@
--- `flash::program` meets its contract. The look at the cell says whether the place is one and what it holds; the test of its
--- bits says whether the step fits, and then both bytes are stored. Assumes nothing.
+-- `flash::program` meets its contract. The look at the cell says whether the place is one and what it holds; the test
+-- of its bits says whether the step fits, and then both bytes are stored. Assumes nothing.
 use borrow.Author.Needs.{needs}
 use Prim.Native.Nat.{_+_, _<_}
-use mathlib.Core.Path.{_≡_, sym, ap, _∙_}
+use mathlib.Core.Path.{sym, _∙_}
 use native.Mathlib.Omega.{arith}
 use lib.ListN.{length, length-set}
 use Rattle.flash.specs.Flash.{stored}
@@ -24,15 +24,18 @@ same-length c = search needs
 
 returns : tie.Need-returns
 returns c =
-    let old = c .before .before .old .given .0 .0 in
-    let a = c .before .before .before .before .before .before .before .args in
-    step-unfit (a .page .now) (a .at) (a .value) old
-    (sym (c .before .before .before .before .cell-at .ensures) ∙ c .before .before .old .given .1) (omega arith)
+    let at = c .before .before in
+    let a = at .before .before .before .before .before .args in
+    step-unfit (a .page .now) (a .at) (a .value) (at .old .given .0 .0)
+    (sym (at .before .before .cell-at .ensures) ∙ at .old .given .1) (omega arith)
 
 -- the byte after the place lies in the page
-inside : (c : tie.Else1) → c .before .before .before .before .before .before .before .args .at + 1
-    < length (c .before .before .before .before .before .before .before .args .page .now)
-inside c = holds-inside _ _ _ (sym (c .before .before .before .before .cell-at .ensures) ∙ c .before .before .old .given .1)
+inside : (c : tie.Else1)
+    → let a = c .before .before .before .before .before .before .before .args in
+    a .at + 1 < length (a .page .now)
+inside c =
+    let at = c .before .before in
+    holds-inside _ _ _ (sym (at .before .before .cell-at .ensures) ∙ at .old .given .1)
 
 add-next : tie.Need-add-next
 add-next c = omega (arith, inside c)
@@ -61,10 +64,10 @@ same-length-3 c = search needs
 returns-3 : tie.Need-returns-3
 unfolding stored
 returns-3 c =
-    let old = c .before .before .old .given .0 .0 in
-    let a = c .before .before .before .before .before .before .before .args in
-    step-made (a .page .now) (a .at) (a .value) old
-    (sym (c .before .before .before .before .cell-at .ensures) ∙ c .before .before .old .given .1) (omega arith)
+    let at = c .before .before in
+    let a = at .before .before .before .before .before .args in
+    step-made (a .page .now) (a .at) (a .value) (at .old .given .0 .0)
+    (sym (at .before .before .cell-at .ensures) ∙ at .old .given .1) (omega arith)
 
 pub program-spec : {M : Type 1} → statement M
 program-spec =

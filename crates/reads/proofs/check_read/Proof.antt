@@ -1,5 +1,6 @@
 -- `reads::check_read` meets its contract: the number is that of where the bytes were found. Assumes nothing.
 use mathlib.Core.Path.{sym, ap, _∙_}
+use Rattle.flash.proofs.Laws.{told}
 use Rattle.reads.specs.Reads.{foundIn}
 use Rattle.reads.proofs.Laws.{found-number}
 use borrow.Author.Needs.{needs}
@@ -20,13 +21,13 @@ enum-told-2 c = search needs
 
 returns : tie.Need-returns
 returns c =
-    found-number _ _ _ _ _ (ap foundIn (sym (c .before .why .given .1)) ∙ c .before .before .before .locate .ensures)
+    found-number _ _ _ _ _ (told foundIn (c .before .why .given .1) (c .before .before .before .locate .ensures))
 
 returns-2 : tie.Need-returns-2
-returns-2 c = found-number _ _ _ _ _ (ap foundIn (sym (c .enum-told .given .1)) ∙ c .before .before .locate .ensures)
+returns-2 c = found-number _ _ _ _ _ (told foundIn (c .enum-told .given .1) (c .before .before .locate .ensures))
 
 returns-3 : tie.Need-returns-3
-returns-3 c = found-number _ _ _ _ _ (ap foundIn (sym (c .enum-told2 .given .1)) ∙ c .before .before .locate .ensures)
+returns-3 c = found-number _ _ _ _ _ (told foundIn (c .enum-told2 .given .1) (c .before .before .locate .ensures))
 
 pub check-read-spec : {M : Type 1} → statement M
 check-read-spec =

@@ -2,6 +2,7 @@
 use mathlib.Core.Path.{sym, ap, _∙_}
 use Rattle.pages.specs.declared.Status.{Status}
 use Rattle.requests.specs.Numbers.{numberIn}
+use Rattle.flash.proofs.Laws.{told}
 use Rattle.reads.proofs.Laws.{found-refused, found-none, found-on}
 use borrow.Author.Needs.{needs}
 use Rattle.reads.proofs.locate.Statement.{statement}
@@ -28,19 +29,21 @@ enum-known-live c = search needs
 returns : tie.Need-returns
 returns c =
     found-refused _ _ _ _ (c .before .why .given .0 .0)
-    (ap numberIn (sym (c .before .why .given .1)) ∙ c .before .before .before .check-request .ensures)
+    (told numberIn (c .before .why .given .1) (c .before .before .before .check-request .ensures))
 
 returns-2 : tie.Need-returns-2
 returns-2 c =
+    let at = c .before .before in
     found-none _ _ _ _
-    (sym (c .before .before .before .before .before .check-request .ensures) ∙ ap numberIn (c .before .before .before .enum-told .given .1))
-    (sym (ap (λ (s : Status). s .live) (c .before .before .status-of .ensures)) ∙ c .enum-told2 .given .1)
+    (sym (told numberIn (at .before .enum-told .given .1) (at .before .before .before .check-request .ensures)))
+    (sym (ap (λ (s : Status). s .live) (at .status-of .ensures)) ∙ c .enum-told2 .given .1)
 
 returns-3 : tie.Need-returns-3
 returns-3 c =
+    let at = c .before .before .before in
     found-on _ _ _ _ (c .before .live .given .0 .0)
-    (sym (c .before .before .before .before .before .before .check-request .ensures) ∙ ap numberIn (c .before .before .before .before .enum-told .given .1))
-    (sym (ap (λ (s : Status). s .live) (c .before .before .before .status-of .ensures)) ∙ c .before .live .given .1)
+    (sym (told numberIn (at .before .enum-told .given .1) (at .before .before .before .check-request .ensures)))
+    (sym (ap (λ (s : Status). s .live) (at .status-of .ensures)) ∙ c .before .live .given .1)
 
 pub locate-spec : {M : Type 1} → statement M
 locate-spec =

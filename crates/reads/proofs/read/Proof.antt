@@ -3,6 +3,7 @@
 use mathlib.Core.Path.{_≡_, sym, ap, _∙_}
 use native.Mathlib.Omega.{arith}
 use Rattle.requests.proofs.Laws.{never-none}
+use Rattle.flash.proofs.Laws.{told}
 use Rattle.reads.specs.Reads.{foundIn}
 use Rattle.reads.proofs.Laws.{no-part, on-legal, on-part}
 use borrow.Author.Needs.{needs}
@@ -41,21 +42,26 @@ enum-known-side c = search needs
 
 part-requires : tie.Need-part-requires
 part-requires c κs =
-    omega (arith, on-legal _ _ _ _ _ (ap foundIn (sym (c .before .side .given .1)) ∙ c .before .before .before .locate .ensures))
+    omega (
+      arith,
+      on-legal _ _ _ _ _ (told foundIn (c .before .side .given .1) (c .before .before .before .locate .ensures)),
+    )
 
 returns : tie.Need-returns
 returns c =
-    no-part _ _ _ _ _ (ap foundIn (sym (c .before .enum-told .given .1)) ∙ c .before .before .before .locate .ensures)
+    no-part _ _ _ _ _ (told foundIn (c .before .enum-told .given .1) (c .before .before .before .locate .ensures))
     (never-none (c .before .enum-told .given .0 .0))
 
 returns-2 : tie.Need-returns-2
 returns-2 c =
-    no-part _ _ _ _ _ (ap foundIn (sym (c .before .enum-told2 .given .1)) ∙ c .before .before .before .locate .ensures) (λ e. omega (arith, e))
+    no-part _ _ _ _ _ (told foundIn (c .before .enum-told2 .given .1) (c .before .before .before .locate .ensures))
+    (λ e. omega (arith, e))
 
 returns-3 : tie.Need-returns-3
 returns-3 c =
     c .part .ensures
-    ∙ on-part _ _ _ _ _ (ap foundIn (sym (c .before .before .side .given .1)) ∙ c .before .before .before .before .locate .ensures)
+    ∙ on-part _ _ _ _ _
+    (told foundIn (c .before .before .side .given .1) (c .before .before .before .before .locate .ensures))
 
 pub read-spec : {M : Type 1} → statement M
 read-spec =

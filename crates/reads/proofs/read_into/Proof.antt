@@ -1,10 +1,12 @@
--- `reads::read_into` meets its contract: a refusal keeps the output, number 5 fills it with FF, and a found page is copied from.
+-- `reads::read_into` meets its contract: a refusal keeps the output, number 5 fills it with FF, and a found page is
+-- copied from.
 -- Assumes nothing.
 use mathlib.Core.Path.{_≡_, sym, ap, _∙_}
 use native.Mathlib.Omega.{arith}
-use lib.ListN.{length}
+use lib.ListN.{length-take}
+use Rattle.flash.proofs.Laws.{told}
 use Rattle.reads.specs.Reads.{foundIn}
-use Rattle.reads.proofs.Laws.{on-legal, part-length, kept, blank, given}
+use Rattle.reads.proofs.Laws.{on-legal, kept, blank, given}
 use borrow.Author.Needs.{needs}
 use Rattle.reads.proofs.read_into.Statement.{statement}
 use Rattle.reads.proofs.read_into.Tie as tie
@@ -26,26 +28,26 @@ enum-known-side c = search needs
 
 part-requires : tie.Need-part-requires
 part-requires c κs =
-    omega (arith, on-legal _ _ _ _ _ (ap foundIn (sym (c .before .side .given .1)) ∙ c .before .before .before .locate .ensures))
-
-copy-requires : tie.Need-copy-requires
-copy-requires c κs =
     omega (
       arith,
-      ap length (c .before .part .ensures)
-          ∙ part-length _ _ _ _ _ (ap foundIn (sym (c .before .before .before .side .given .1)) ∙ c .before .before .before .before .before .locate .ensures),
+      on-legal _ _ _ _ _ (told foundIn (c .before .side .given .1) (c .before .before .before .locate .ensures)),
     )
+
+copy-requires : tie.Need-copy-requires
+copy-requires c κs = simp (c .before .part .ensures, length-take) (omega arith)
 
 returns : tie.Need-returns
 returns c =
-    kept _ _ _ _ (c .before .why .given .0 .0) (ap foundIn (sym (c .before .why .given .1)) ∙ c .before .before .before .locate .ensures)
+    kept _ _ _ _ (c .before .why .given .0 .0)
+    (told foundIn (c .before .why .given .1) (c .before .before .before .locate .ensures))
 
 same-length : tie.Need-same-length
 same-length c = search needs
 
 returns-2 : tie.Need-returns-2
 returns-2 c =
-    blank _ _ _ _ _ (ap foundIn (sym (c .before .before .before .before .enum-told .given .1)) ∙ c .before .before .before .before .before .before .locate .ensures)
+    let at = c .before .before .before .before in
+    blank _ _ _ _ _ (told foundIn (at .enum-told .given .1) (at .before .before .locate .ensures))
     (c .before .before .erase .ensures)
 
 same-length-2 : tie.Need-same-length-2
@@ -54,7 +56,8 @@ same-length-2 c = search needs
 returns-3 : tie.Need-returns-3
 returns-3 c =
     let at = c .before .before .before .before in
-    given _ _ _ _ _ _ _ (ap foundIn (sym (at .before .before .side .given .1)) ∙ at .before .before .before .before .locate .ensures)
+    given _ _ _ _ _ _ _
+    (told foundIn (at .before .before .side .given .1) (at .before .before .before .before .locate .ensures))
     (at .part .ensures) (c .before .before .copy .ensures .1)
 
 pub read-into-spec : {M : Type 1} → statement M

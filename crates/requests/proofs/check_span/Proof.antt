@@ -1,9 +1,18 @@
--- `requests::check_span` meets its contract: the tests that led to each `return` say which of numbers 2 to 4 is given; an offset
--- is below the image exactly if it has no image offset. Assumes nothing.
+-- `requests::check_span` meets its contract: the tests that led to each `return` say which of numbers 2 to 4 is given;
+-- an offset is below the image exactly if it has no image offset. Assumes nothing.
 use mathlib.Core.Path.{sym, _∙_}
 use native.Mathlib.Omega.{arith}
 use borrow.Author.Needs.{needs}
-use Rattle.requests.proofs.Laws.{two, three, not-three, offset-odd, length-odd, both-even, in-management, in-image}
+use Rattle.requests.proofs.Laws.{
+  two,
+  three,
+  not-three,
+  offset-odd,
+  length-odd,
+  both-even,
+  in-management,
+  in-image,
+}
 use Rattle.requests.proofs.check_span.Statement.{statement}
 use Rattle.requests.proofs.check_span.Tie as tie
 

@@ -10,7 +10,7 @@ use native.Mathlib.Omega.{arith}
 use lib.Bits.{bitAnd, and-le-l, and-le-r, and-mask}
 use lib.Dec.{eqb, ltb, leb}
 use lib.ListN.{length, getD, set, drop, replicate, length-set, length-replicate, drop-of-length-le}
-use lib.Seq.{drop-cons, drop-length}
+use lib.Seq.{drop-cons, drop-length, getD-set-same, getD-set-other}
 use borrow.Author.Fill.{fill-more}
 use borrow.Author.Tests.{eqb-true, eqb-false, ltb-true, eq-eqb, ne-eqb, lt-ltb, le-ltb}
 use Rattle.flash.specs.declared.Cell.{Cell}
@@ -120,6 +120,35 @@ step-made l i v old e h =
 
 pub holds-inside : (l : List ℕ) (i v : ℕ) → cellOf l i ≡ Holds v → i + 1 < length l
 holds-inside l i v e = cell-inside l i (holds-cell l i v e .0)
+
+-- a stored number is read back from its cell, and every other byte is as it was
+pub cell-stored : (l : List ℕ) (i v : ℕ) → i + 1 < length l → cellAt (stored l i v) i ≡ v
+unfolding stored
+cell-stored l i v h =
+    let m = set l i (v % 256) in
+    let low : getD (set m (i + 1) (v / 256)) i 0 ≡ v % 256 =
+    getD-set-other m (i + 1) i (v / 256) 0 (λ e. omega arith) ∙ getD-set-same l i (v % 256) 0 (omega arith) in
+    let high : getD (set m (i + 1) (v / 256)) (i + 1) 0 ≡ v / 256 =
+    getD-set-same m (i + 1) (v / 256) 0 (simp length-set h) in
+    omega arith
+
+pub byte-stored : (l : List ℕ) (i v j : ℕ) → (j ≡ i → ⊥) → (j ≡ i + 1 → ⊥) → getD (stored l i v) j 0 ≡ getD l j 0
+unfolding stored
+byte-stored l i v j p q =
+    getD-set-other (set l i (v % 256)) (i + 1) j (v / 256) 0 q ∙ getD-set-other l i j (v % 256) 0 p
+
+-- so a made step leaves old AND new, which is the new number, in the cell
+fits-clears : (l : List ℕ) (i v : ℕ) → fits l i v ≡ true → (isCell l i ≡ true) × (bitAnd (cellAt l i) v ≡ v)
+unfolding fits
+fits-clears l i v e = (
+  and-left (isCell l i) (clears (cellAt l i) v) e,
+  eqb-true (bitAnd (cellAt l i) v) v (and-right (isCell l i) (clears (cellAt l i) v) e),
+)
+
+pub cell-made : (l : List ℕ) (i v : ℕ) → fits l i v ≡ true → cellAt (programmed l i v .bytes) i ≡ v
+cell-made l i v e =
+    let f = fits-clears l i v e in
+    rw (made l i v e, f .1) (cell-stored l i v (cell-inside l i (f .0)))
 
 pub length-stored : (l : List ℕ) (i v : ℕ) → length (stored l i v) ≡ length l
 unfolding stored

@@ -1,19 +1,18 @@
 -- Laws of cells, programming and erasing: callers use these and never the text of the definitions.
 -- In order: answers and Booleans; cells; programming; erasing; the erased test.
 -- Not here: laws of lists (lib.Seq, lib.ListN) and of bits (lib.Bits). Assumes nothing.
-use Prim.Native.Nat.{ℕ, zero, suc, _+_, _-_, _*_, _^_, _%_, _/_, _<_, _≤_}
+use Prim.Native.Nat.{ℕ, zero, suc, _+_, _%_, _/_, _<_, _≤_}
 use mathlib.Core.Path.{_≡_, refl, sym, ap, ap₂, _∙_}
 use mathlib.Core.Bool.{Bool, true, false, cond, _&&_}
 use mathlib.Core.List.{List, [], _∷_, _++_, append-nil}
 use native.Mathlib.Numerals.{add-one}
 use native.Mathlib.Omega.{arith}
-use lib.Bits.{bitAnd, and-le-l, and-le-r, and-mask}
-use lib.Dec.{eqb, ltb, leb}
+use lib.Bits.{bitAnd, and-le-l, and-le-r}
+use lib.Dec.{eqb, ltb}
 use lib.ListN.{length, getD, set, drop, replicate, length-set, length-replicate, drop-of-length-le}
 use lib.Seq.{drop-cons, drop-length, getD-set-same, getD-set-other}
 use borrow.Author.Fill.{fill-more}
 use borrow.Author.Tests.{eqb-true, eqb-false, ltb-true, eq-eqb, ne-eqb, lt-ltb, le-ltb}
-use Rattle.flash.specs.declared.Cell.{Cell}
 use Rattle.flash.specs.declared.Cell.the-variants.{Holds, Outside}
 use Rattle.flash.specs.Flash.{
   isCell,

@@ -5,7 +5,6 @@ use Prim.Native.Nat.{_-_}
 use mathlib.Core.Bool.{cond}
 use lib.Dec.{ltb}
 use Rattle.pages.specs.declared.PageOffset.{PageOffset}
-use Rattle.pages.specs.declared.ImageOffset.{ImageOffset}
 use Rattle.pages.specs.declared.InImage.{InImage}
 use Rattle.pages.specs.declared.InImage.the-variants.{Management, At}
 

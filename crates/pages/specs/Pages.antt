@@ -1,6 +1,6 @@
 -- Management words, and which page is live (document 01, "Pages, cells" and "Which page is live").
--- In order: the word of a page; a choice by side; the table of lines; the look-up; each state's line
--- number and live side.
+-- In order: the word of a page; a choice by side; the table of lines; the look-up; each state's
+-- line number and live side.
 -- Not here: offsets (Offsets.antt). Laws: proofs/Laws.antt. Assumes nothing.
 use Prim.Native.Nat.{ℕ, _+_, _*_}
 use mathlib.Core.Bool.{Bool, cond, _&&_}

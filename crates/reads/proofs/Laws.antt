@@ -1,16 +1,16 @@
 -- Laws of the two reads.
 -- In order: where a read finds its bytes; what follows of its number, of the part and of the output.
 -- Not here: laws of numbers 1 to 4 (the crate requests) and of flash (flash). Assumes nothing.
-use Prim.Native.Nat.{ℕ, _+_, _-_, _≤_}
+use Prim.Native.Nat.{ℕ, _+_, _-_}
 use mathlib.Core.Path.{_≡_, refl, sym, ap, _∙_}
-use mathlib.Core.Bool.{Bool, true, false, cond}
+use mathlib.Core.Bool.{cond}
 use mathlib.Core.List.{List, [], _++_, append-nil}
 use native.Mathlib.Nat.{add-sub-cancel-left}
 use native.Mathlib.Omega.{arith}
 use lib.Dec.{eqb}
-use lib.ListN.{length, take, drop, length-drop, length-take}
+use lib.ListN.{length, take, drop, length-drop}
 use lib.Seq.{take-length, drop-length, length-take-le}
-use borrow.Author.Tests.{eq-eqb, ne-eqb}
+use borrow.Author.Tests.{ne-eqb}
 use Rattle.flash.specs.Flash.{Outcome, erasure}
 use Rattle.pages.specs.declared.Side.{Side}
 use Rattle.pages.specs.declared.Side.the-variants.{Left, Right}
@@ -23,7 +23,6 @@ use Rattle.requests.proofs.Laws.{Legal, legal, legal-then, refused-first, one-t
 use Rattle.reads.specs.Reads.{
   liveNumber,
   readNumber,
-  livePage,
   readPart,
   outputAfter,
   filled,

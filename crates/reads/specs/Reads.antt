@@ -5,7 +5,7 @@
 -- Not here: numbers 1 to 4 (the crate requests), which page is live (pages). Laws:
 -- proofs/Laws.antt. Assumes nothing.
 use Prim.Native.Nat.{ℕ}
-use mathlib.Core.Bool.{Bool, cond}
+use mathlib.Core.Bool.{cond}
 use mathlib.Core.List.{List, []}
 use lib.Dec.{eqb}
 use lib.ListN.{length, take, drop}

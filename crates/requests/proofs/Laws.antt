@@ -2,7 +2,7 @@
 -- In order: from facts to each case and its number; what a legal request fulfils; numbers that come after 1 to 4.
 -- Not here: laws of offsets (the crate pages). Assumes nothing.
 use Prim.Native.Nat.{ℕ, suc, _+_, _-_, _%_, _<_, _≤_}
-use mathlib.Core.Path.{_≡_, refl, sym, ap, _∙_}
+use mathlib.Core.Path.{_≡_, refl}
 use mathlib.Core.Bool.{Bool, true, false, cond, not, _||_}
 use native.Mathlib.Omega.{arith}
 use lib.Dec.{eqb, ltb, leb, lit≤}
@@ -214,9 +214,4 @@ refused-first p q o n rest why =
 
 -- a legal request is given what comes after
 pub legal-then : (p q o n rest : ℕ) → requestNumber p q o n 0 ≡ 0 → requestNumber p q o n rest ≡ rest
-unfolding requestNumber spanNumber endNumber
-legal-then p q o n rest e =
-    let w = passed (wrongPages p q) 0 (spanNumber p o n 0) e in
-    let d = passed (oddRequest o n) 1 (cond (belowImage o) 3 (endNumber p o n 0)) (w .1) in
-    let b = passed (belowImage o) 2 (endNumber p o n 0) (d .1) in
-    simp (w .0, d .0, b .0, passed (pastEnd p o n) 3 0 (b .1) .0)
+legal-then p q o n rest e = legal-none p q o n rest (legal p q o n 0 e .0)

@@ -1,5 +1,5 @@
 -- `pages::word` meets its contract: the four bytes are those of the page. Assumes nothing.
-use mathlib.Core.Path.{_≡_, _∙_}
+use mathlib.Core.Path.{_∙_}
 use Rattle.pages.specs.Pages.{wordOf}
 use borrow.Author.Needs.{needs}
 use Rattle.pages.proofs.word.Statement.{statement}

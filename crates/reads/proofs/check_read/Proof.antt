@@ -1,5 +1,4 @@
 -- `reads::check_read` meets its contract: the number is that of where the bytes were found. Assumes nothing.
-use mathlib.Core.Path.{sym, ap, _∙_}
 use Rattle.flash.proofs.Laws.{told}
 use Rattle.reads.specs.Reads.{foundIn}
 use Rattle.reads.proofs.Laws.{found-number}

@@ -1,6 +1,6 @@
 -- `reads::read` meets its contract: a refusal hands back nothing, and a found page the asked bytes, which lie in it.
 -- Assumes nothing.
-use mathlib.Core.Path.{_≡_, sym, ap, _∙_}
+use mathlib.Core.Path.{_∙_}
 use native.Mathlib.Omega.{arith}
 use Rattle.requests.proofs.Laws.{never-none}
 use Rattle.flash.proofs.Laws.{told}

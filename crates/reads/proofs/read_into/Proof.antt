@@ -1,7 +1,6 @@
 -- `reads::read_into` meets its contract: a refusal keeps the output, number 5 fills it with FF, and a found page is
 -- copied from.
 -- Assumes nothing.
-use mathlib.Core.Path.{_≡_, sym, ap, _∙_}
 use native.Mathlib.Omega.{arith}
 use lib.ListN.{length-take}
 use Rattle.flash.proofs.Laws.{told}

@@ -2,9 +2,11 @@
 // pages, and compares. The layout of what it prints is in docs/FORMATS.md.
 use libc::STDOUT_FILENO;
 use pages::PageOffset;
+use walks::Begun;
+use walks::Walk;
 
-// The length of the pages, a page offset, a length, and document 01's number for a read of them; 0
-// where it is legal.
+// The length of the pages, a page offset, a length, and document 01's number for a read and for a
+// save of them; 0 where it is legal.
 struct Vector(usize, u32, usize, u8);
 
 const VECTORS: [Vector; 6] = [
@@ -43,6 +45,28 @@ fn ask<'a>(
     reading.number()
 }
 
+// The number of a save of the first `len` bytes of a buffer; 255 where a buffer is too short.
+fn ask_save(left: &[u8], right: &[u8], page: usize, offset: u32, data: &[u8], len: usize) -> u8 {
+    if left.len() < page {
+        return 255;
+    }
+    if right.len() < page {
+        return 255;
+    }
+    if data.len() < len {
+        return 255;
+    }
+    match Walk::save(
+        &left[0..page],
+        &right[0..page],
+        PageOffset(offset),
+        &data[0..len],
+    ) {
+        Begun::On(_) => 0,
+        Begun::Refused(why) => why.number(),
+    }
+}
+
 fn lend<'a>(
     left: &'a [u8; 4098],
     right: &'a [u8; 4098],
@@ -51,10 +75,12 @@ fn lend<'a>(
     out: &mut [u8; 4098],
     len: usize,
 ) -> u8 {
-    ask(left, right, page, offset, out, len)
+    let saving = ask_save(left, right, page, offset, out, len);
+    let reading = ask(left, right, page, offset, out, len);
+    if saving == reading { reading } else { 254 }
 }
 
-// The number that the library gives: LEFT is live, line 3.
+// The number that the library gives a read and a save, 254 where they differ: LEFT is live, line 3.
 fn answer(page: usize, offset: u32, len: usize) -> u8 {
     let mut left = [255u8; 4098];
     left[0] = 0;
@@ -67,24 +93,29 @@ fn answer(page: usize, offset: u32, len: usize) -> u8 {
     lend(&left, &right, page, offset, &mut out, len)
 }
 
+fn print_number(label: &[u8], number: u64) {
+    io::write_all(STDOUT_FILENO, label);
+    io::print_decimal(STDOUT_FILENO, number);
+}
+
 fn print_answer(number: u8) {
     if number == 0 {
         io::write_all(STDOUT_FILENO, b"legal");
     } else {
-        io::write_all(STDOUT_FILENO, b"number ");
-        io::print_decimal(STDOUT_FILENO, number as u64);
+        print_number(b"number ", number as u64);
     }
+}
+
+fn print_request(page: usize, offset: u32, len: usize) {
+    print_number(b"P ", page as u64);
+    print_number(b", offset ", offset as u64);
+    print_number(b", length ", len as u64);
+    io::write_all(STDOUT_FILENO, b": ");
 }
 
 // Prints a vector with the library's answer, and says whether it is document 01's.
 fn run(page: usize, offset: u32, len: usize, number: u8) -> bool {
-    io::write_all(STDOUT_FILENO, b"P ");
-    io::print_decimal(STDOUT_FILENO, page as u64);
-    io::write_all(STDOUT_FILENO, b", offset ");
-    io::print_decimal(STDOUT_FILENO, offset as u64);
-    io::write_all(STDOUT_FILENO, b", length ");
-    io::print_decimal(STDOUT_FILENO, len as u64);
-    io::write_all(STDOUT_FILENO, b": ");
+    print_request(page, offset, len);
     let given = answer(page, offset, len);
     print_answer(given);
     if given != number {

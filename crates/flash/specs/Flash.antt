@@ -1,10 +1,10 @@
 -- Cells and flash steps over a list of bytes: a page, or any part of one (document 01, "Pages,
 -- cells" and "Flash steps").
--- In order: cells and their numbers; programming; erasing; the erased test.
+-- In order: bytes; cells and their numbers; programming; erasing; the erased test.
 -- Not here: which bytes of a page are management and which are image (the crate pages). Laws:
 -- proofs/Laws.antt.
 -- Assumes nothing.
-use Prim.Native.Nat.{ℕ, _+_, _*_, _/_, _%_}
+use Prim.Native.Nat.{ℕ, _+_, _*_, _/_, _%_, _<_}
 use mathlib.Core.Bool.{Bool, true, cond, _&&_}
 use mathlib.Core.List.{List, [], _∷_}
 use lib.Bits.{bitAnd}
@@ -14,6 +14,11 @@ use Rattle.flash.specs.declared.Cell.{Cell}
 use Rattle.flash.specs.declared.Cell.the-variants.{Holds, Outside}
 use Rattle.flash.specs.declared.Programmed.{Programmed}
 use Rattle.flash.specs.declared.Programmed.the-variants.{Made, Unfit}
+
+-- every number is a byte: what a lent `[u8]` always holds
+abbrev pub Bytes : List ℕ → Type 0
+Bytes [] = Unit {0}
+Bytes (x ∷ xs) = (x < 256) × Bytes xs
 
 abbrev pub isEven : ℕ → Bool
 isEven n = eqb (n % 2) 0

@@ -1,16 +1,19 @@
 -- The rule of document 01's table, proved once over the table: each row is found by its own words, its live side is
 -- that of its state, and the live page is the one that its marks say. From it, the live side of any two pages is that
--- of their state.
+-- of their state, and a state other than S0 is the words of its row and no others.
 -- Assumes nothing.
-use mathlib.Core.Path.{_≡_, refl, sym}
+use mathlib.Core.Path.{_≡_, refl, sym, ap, ap₂, _∙_}
 use mathlib.Core.Bool.{Bool, true, false, cond, not, _&&_, _||_}
 use mathlib.Core.List.{List, [], _∷_}
 use Prim.Native.Nat.{ℕ}
 use lib.Dec.{eqb}
+use borrow.Author.Tests.{eqb-true}
+use Rattle.pages.specs.declared.State.{State}
+use Rattle.pages.specs.declared.State.the-variants.{S0, S1, S2, S3, S5, S6, S7, S8, S9, S10}
 use Rattle.pages.specs.declared.Live.the-variants.{On}
 use Rattle.pages.specs.declared.Status.{Status}
 use Rattle.pages.specs.declared.Row.{Row}
-use Rattle.pages.specs.Pages.{onSide, table, hits, look, liveOf, statusOf, wordOf}
+use Rattle.pages.specs.Pages.{onSide, table, hits, look, lineOf, liveOf, rowOf, statusOf, wordOf}
 
 -- what holds of every row of a list
 abbrev pub All : (Row → Type 0) → List Row → Type 0
@@ -60,3 +63,53 @@ look-live (x ∷ xs) a l r =
 pub status-live : (l r : List ℕ) → statusOf l r .live ≡ liveOf (statusOf l r .state)
 unfolding statusOf
 status-live l r = look-live table ruled (wordOf l) (wordOf r)
+
+-- ---- from a state to the words, and back
+-- each row is that of its state
+abbrev Own : Row → Type 0
+Own x = rowOf (x .2) ≡ x
+
+own : All Own table
+own = search tt
+
+found : (xs : List Row) → All Own xs → (l r : ℕ) (st : State) → look xs l r .state ≡ st → (lineOf st ≡ 0 → ⊥)
+    → (l ≡ rowOf st .0) × (r ≡ rowOf st .1)
+unfolding look
+found [] a l r st e h = absurd (h (ap lineOf (sym e)))
+found (x ∷ xs) a l r st e h =
+    go (eqb (x .0) l) (eqb (x .1) r) refl refl (found xs (a .1) l r st) e h
+  where
+    go : (s t : Bool) → eqb (x .0) l ≡ s → eqb (x .1) r ≡ t
+        → (look xs l r .state ≡ st → (lineOf st ≡ 0 → ⊥) → (l ≡ rowOf st .0) × (r ≡ rowOf st .1))
+        → cond (s && t) (record { state = x .2; live = On (x .3) }) (look xs l r) .state ≡ st
+        → (lineOf st ≡ 0 → ⊥) → (l ≡ rowOf st .0) × (r ≡ rowOf st .1)
+    go true true p q later e h =
+        let y : rowOf st ≡ x = ap rowOf (sym e) ∙ a .0 in (
+          sym (eqb-true (x .0) l p) ∙ ap (λ (z : Row). z .0) (sym y),
+          sym (eqb-true (x .1) r q) ∙ ap (λ (z : Row). z .1) (sym y),
+        )
+    go true false p q later e h = later e h
+    go false t p q later e h = later e h
+
+pub words-of : (l r : List ℕ) (st : State) → statusOf l r .state ≡ st → (lineOf st ≡ 0 → ⊥)
+    → (wordOf l ≡ rowOf st .0) × (wordOf r ≡ rowOf st .1)
+unfolding statusOf
+words-of l r st = found table own (wordOf l) (wordOf r) st
+
+at-row : (st : State) → (lineOf st ≡ 0 → ⊥) → look table (rowOf st .0) (rowOf st .1) .state ≡ st
+unfolding look
+at-row S0 h = absurd (h refl)
+at-row S1 h = refl
+at-row S2 h = refl
+at-row S3 h = refl
+at-row S5 h = refl
+at-row S6 h = refl
+at-row S7 h = refl
+at-row S8 h = refl
+at-row S9 h = refl
+at-row S10 h = refl
+
+pub state-of : (l r : List ℕ) (st : State) → (lineOf st ≡ 0 → ⊥) → wordOf l ≡ rowOf st .0 → wordOf r ≡ rowOf st .1
+    → statusOf l r .state ≡ st
+unfolding statusOf
+state-of l r st h p q = ap₂ (λ (a b : ℕ). look table a b .state) p q ∙ at-row st h

@@ -1,6 +1,6 @@
 -- Management words, and which page is live (document 01, "Pages, cells" and "Which page is live").
 -- In order: the word of a page; a choice by side; the table of lines; the look-up; each state's
--- line number and live side.
+-- line number, live side and row.
 -- Not here: offsets (Offsets.antt). Laws: proofs/Laws.antt. Assumes nothing.
 use Prim.Native.Nat.{ℕ, _+_, _*_}
 use mathlib.Core.Bool.{Bool, cond, _&&_}
@@ -89,3 +89,16 @@ liveOf S7 = On Right
 liveOf S8 = On Right
 liveOf S9 = On Left
 liveOf S10 = On Left
+
+-- the row of each state; S0 has none
+abbrev pub rowOf : State → Row
+rowOf S0 = row 0 0 S0 Left
+rowOf S1 = getD table 0 (row 0 0 S0 Left)
+rowOf S2 = getD table 1 (row 0 0 S0 Left)
+rowOf S3 = getD table 2 (row 0 0 S0 Left)
+rowOf S5 = getD table 3 (row 0 0 S0 Left)
+rowOf S6 = getD table 4 (row 0 0 S0 Left)
+rowOf S7 = getD table 5 (row 0 0 S0 Left)
+rowOf S8 = getD table 6 (row 0 0 S0 Left)
+rowOf S9 = getD table 7 (row 0 0 S0 Left)
+rowOf S10 = getD table 8 (row 0 0 S0 Left)

@@ -162,21 +162,43 @@ or-right false b e = e
 even : (n : ℕ) → not (isEven n) ≡ false → n % 2 ≡ 0
 even n e = eqb-true (n % 2) 0 (not-false (isEven n) e)
 
+-- pages that aren't given 1
+pub record RightPages (p q : ℕ) : Type 0 where
+  pub same : p ≡ q
+  pub evenPage : p % 2 ≡ 0
+  pub least : 8 ≤ p
+  pub most : p ≤ 4096
+
+right-pages : (p q : ℕ) → wrongPages p q ≡ false → RightPages p q
+unfolding wrongPages
+right-pages p q e =
+    let w₃ = or-left (not (eqb p q) || not (isEven p) || ltb p 8) (ltb 4096 p) e in
+    let w₂ = or-left (not (eqb p q) || not (isEven p)) (ltb p 8) w₃ in
+    record {
+      same = eqb-true p q (not-false (eqb p q) (or-left (not (eqb p q)) (not (isEven p)) w₂));
+      evenPage = even p (or-right (not (eqb p q)) (not (isEven p)) w₂);
+      least = ltb-false p 8 (or-right (not (eqb p q) || not (isEven p)) (ltb p 8) w₃);
+      most = ltb-false 4096 p (or-right (not (eqb p q) || not (isEven p) || ltb p 8) (ltb 4096 p) e);
+    }
+
+pub legal-pages : (p q : ℕ) → pagesNumber p q ≡ 0 → RightPages p q
+unfolding pagesNumber
+legal-pages p q e = right-pages p q (passed (wrongPages p q) 0 0 e .0)
+
 -- no number means a legal request, and none from what comes after
 pub legal : (p q o n rest : ℕ) → requestNumber p q o n rest ≡ 0 → Legal p q o n × (rest ≡ 0)
-unfolding requestNumber spanNumber endNumber wrongPages oddRequest belowImage pastEnd
+unfolding requestNumber spanNumber endNumber oddRequest belowImage pastEnd
 legal p q o n rest e =
     let w = passed (wrongPages p q) 0 (spanNumber p o n rest) e in
     let d = passed (oddRequest o n) 1 (cond (belowImage o) 3 (endNumber p o n rest)) (w .1) in
     let b = passed (belowImage o) 2 (endNumber p o n rest) (d .1) in
     let z = passed (pastEnd p o n) 3 rest (b .1) in
-    let w₃ = or-left (not (eqb p q) || not (isEven p) || ltb p 8) (ltb 4096 p) (w .0) in
-    let w₂ = or-left (not (eqb p q) || not (isEven p)) (ltb p 8) w₃ in (
+    let r = right-pages p q (w .0) in (
       record {
-        same = eqb-true p q (not-false (eqb p q) (or-left (not (eqb p q)) (not (isEven p)) w₂));
-        evenPage = even p (or-right (not (eqb p q)) (not (isEven p)) w₂);
-        least = ltb-false p 8 (or-right (not (eqb p q) || not (isEven p)) (ltb p 8) w₃);
-        most = ltb-false 4096 p (or-right (not (eqb p q) || not (isEven p) || ltb p 8) (ltb 4096 p) (w .0));
+        same = r .same;
+        evenPage = r .evenPage;
+        least = r .least;
+        most = r .most;
         evenOffset = even o (or-left (not (isEven o)) (not (isEven n)) (d .0));
         evenLength = even n (or-right (not (isEven o)) (not (isEven n)) (d .0));
         inImage = ltb-false o 4 (b .0);

@@ -1,0 +1,5 @@
+pub mod Examples
+pub mod Once
+pub mod Agree
+pub mod Demand3
+pub mod Theorems

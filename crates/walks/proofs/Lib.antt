@@ -1,0 +1,5 @@
+pub mod Sizes
+pub mod Numbers
+pub mod Lines
+pub mod Laws
+pub mod Tries

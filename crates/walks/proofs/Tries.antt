@@ -52,7 +52,7 @@ use Rattle.walks.specs.Walks.{
   stepped,
   stepOf,
 }
-use Rattle.walks.proofs.Lines.{meets-same}
+use Rattle.lines.proofs.Words.{meets-same}
 use Rattle.walks.proofs.Laws.{cellEntry, totalOf, total-steps}
 
 -- ---- an entry tried

@@ -2,7 +2,7 @@
 -- In order: a walk's new image and list of steps; the beginnings; number 6; a step.
 -- Not here: the list of steps of a request (the crate plans). Laws: proofs/. Assumes nothing.
 use Prim.Native.Nat.{ℕ, _+_, _-_}
-use mathlib.Core.Bool.{Bool, false, cond, not, _&&_, _||_}
+use mathlib.Core.Bool.{Bool, false, cond, not, _||_}
 use mathlib.Core.List.{List}
 use mathlib.Core.Option.{Option, none}
 use lib.Dec.{eqb, ltb}
@@ -22,7 +22,8 @@ use Rattle.walks.specs.declared.Begun as B
 use Rattle.walks.specs.declared.Begun.{Begun}
 use Rattle.walks.specs.declared.Progress as P
 use Rattle.walks.specs.declared.Progress.{Progress}
-use Rattle.plans.specs.Plans.{counts, othersErased, plan, meets, nothing}
+use Rattle.plans.specs.Plans.{plan, meets, nothing}
+use Rattle.lines.specs.Starts.{startOf}
 
 -- ---- the new image, and the list of a walk
 -- what the new image is made from: no image at line 0, else the live one
@@ -46,11 +47,11 @@ stepsOf w l r d =
 -- began with, and its place in the list."
 abbrev pub firstWalk : Request → List ℕ → List ℕ → PageOffset → ℕ → Walk
 firstWalk request l r o n =
-    let start = statusOf l r .state in
+    let start = startOf request l r in
     record {
       request = request;
-      start = start;
-      erased = counts request start && othersErased (liveOf start) l r;
+      start = start .state;
+      erased = start .erased;
       page = length l;
       offset = o;
       len = n;

@@ -22,22 +22,18 @@ use requests::Check;
 use requests::Refusal;
 use steps::Step;
 ghost use Prim.Native.Nat.{_+_, _%_, _<_, _≤_};
-ghost use mathlib.Core.Bool.{false, _&&_};
+ghost use mathlib.Core.Bool.{false};
 ghost use mathlib.Core.Path.{_≡_};
 ghost use lib.ListN.{length, getD};
 ghost use Rattle.flash.specs.Flash.{numberIn, cellAt};
-ghost use Rattle.pages.specs.Pages.{rowOf, statusOf};
 ghost use Rattle.requests.proofs.Laws.{Legal};
 ghost use Rattle.steps.specs.declared.Step.the-variants.{Image};
 ghost use Rattle.steps.specs.Steps.{Tried};
 ghost use Rattle.images.specs.Images.{imageOn, liveImage, orBlank};
 ghost use Rattle.plans.specs.Plans.{
   entry,
-  counts,
-  othersErased,
   target,
   clean,
-  meets,
   nothing,
 };
 ghost use Rattle.plans.specs.Counts.{stepCount};
@@ -88,123 +84,24 @@ pub struct Stepped {
     pub progress: Progress,
 }
 
-// ---- beginning
-// Whether erased-or-not counts at a line.
-fn counts_erased(request: Request, start: State) -> bool
-    ensures { λ r. ⌜ r ≡ counts request start ⌝ }
-{
-    let line = start.line();
-    if line == 0 {
-        return true;
-    }
-    match request {
-        Request::Save => if line == 1 { true } else { line == 8 },
-        Request::Format => false,
-    }
-}
-
-// Whether both pages are erased where none is live, else the page that isn't live.
-fn others_erased(live: Live, left: &[u8], right: &[u8]) -> bool
-    ensures { λ r. ⌜ r ≡ othersErased live (now (left .entry)) (now (right .entry)) ⌝ }
-{
-    match live {
-        Live::Nowhere => {
-            if !flash::erased(left) {
-                return false;
-            }
-            flash::erased(right)
-        }
-        Live::On(side) => match side {
-            Side::Left => flash::erased(right),
-            Side::Right => flash::erased(left),
-        },
-    }
-}
-
-// Erased or not, looked for only where it counts.
-fn find_erased(request: Request, start: State, live: Live, left: &[u8], right: &[u8]) -> bool
-    ensures { λ r.
-        ⌜ r ≡ (counts request start
-        && othersErased live (now (left .entry)) (now (right .entry))) ⌝ }
-{
-    if counts_erased(request, start) {
-        return others_erased(live, left, right);
-    }
-    false
-}
-
 // The walk of a request that is legal.
 fn first_walk(request: Request, left: &[u8], right: &[u8], offset: PageOffset, len: u32) -> Walk
     requires { ⌜ length (now left) ≤ 4096 ⌝ }
     ensures { λ r.
         ⌜ r ≡ firstWalk request (now (left .entry)) (now (right .entry)) offset len ⌝ }
 {
-    let status = pages::status_of(left, right);
-    let start = status.state;
-    let live = status.live;
-    let erased = find_erased(request, start, live, left, right);
+    let start = lines::start_of(request, left, right);
+    let state = start.state;
     let page = left.len() as u32;
     Walk {
         request: request,
-        start: start,
-        erased: erased,
+        start: state,
+        erased: start.erased,
         page: page,
         offset: offset,
         len: len,
         place: 0,
     }
-}
-
-// ---- the pages' line
-// The words of a state's row; of S0, which has none, zeros.
-fn left_word(state: State) -> u32
-    ensures { λ r. ⌜ r ≡ rowOf state .0 ⌝ }
-{
-    match state {
-        State::S0 => 0,
-        State::S1 => 0xFFFF0000,
-        State::S2 => 0xFFFF0000,
-        State::S3 => 0xFFFF0000,
-        State::S5 => 0xFFFF0000,
-        State::S6 => 0xFF000000,
-        State::S7 => 0xFF000000,
-        State::S8 => 0xFFFFFFFF,
-        State::S9 => 0xFFFFFF00,
-        State::S10 => 0xFFFFFF00,
-    }
-}
-
-fn right_word(state: State) -> u32
-    ensures { λ r. ⌜ r ≡ rowOf state .1 ⌝ }
-{
-    match state {
-        State::S0 => 0,
-        State::S1 => 0xFFFFFFFF,
-        State::S2 => 0xFF00FFFF,
-        State::S3 => 0xFF000000,
-        State::S5 => 0xFFFFFF00,
-        State::S6 => 0xFFFFFF00,
-        State::S7 => 0xFFFF0000,
-        State::S8 => 0xFFFF0000,
-        State::S9 => 0xFFFF0000,
-        State::S10 => 0xFF000000,
-    }
-}
-
-// Whether the pages are at a line. The line is known, so its row's two words say it; only line 0
-// needs the whole look-up.
-fn at_state(left: &[u8], right: &[u8], wanted: State) -> bool
-    ensures { λ r.
-        ⌜ r ≡ meets wanted (statusOf (now (left .entry)) (now (right .entry)) .state) ⌝ }
-{
-    if wanted.line() == 0 {
-        let state = pages::status_of(left, right).state;
-        return state.line() == 0;
-    }
-    if pages::word(left) != left_word(wanted) {
-        return false;
-    }
-    pages::word(right) == right_word(wanted)
 }
 
 // ---- trying an entry
@@ -217,7 +114,7 @@ fn try_entry(x: Entry, left: &mut [u8], right: &mut [u8]) -> Programmed
 {
     let state = x.state;
     let step = x.step;
-    if at_state(left, right, state) {
+    if lines::is_at(left, right, state) {
         return steps::make(step, left, right);
     }
     Programmed::Unfit
@@ -267,7 +164,7 @@ fn try_cell(
         (now (left .entry))
         (now (right .entry))) ⌝ }
 {
-    if !at_state(left, right, state) {
+    if !lines::is_at(left, right, state) {
         return Programmed::Unfit;
     }
     match offset.to_image() {

@@ -10,8 +10,8 @@ use borrow.Author.Needs.{needs}
 use Rattle.walks.proofs.try_cell.Statement.{statement}
 use Rattle.walks.proofs.try_cell.Tie as tie
 
-at-state-requires : tie.Need-at-state-requires
-at-state-requires c κs = search needs
+is-at-requires : tie.Need-is-at-requires
+is-at-requires c κs = search needs
 
 same-length : tie.Need-same-length
 same-length c = search needs
@@ -26,7 +26,7 @@ returns c =
     let a = start .args in
     try-unmet (cellEntry (a .live) (a .left .now) (a .right .now) (a .«data» .now) (a .offset .0) (a .at)) _ _
     (met (a .live) (a .left .now) (a .right .now) _ _ _ (start .pre .3)
-    (at .at-state .ensures) (not-true (at .at-state .result) (c .if1 .taken)))
+    (at .is-at .ensures) (not-true (at .is-at .result) (c .if1 .taken)))
 
 to-image-requires : tie.Need-to-image-requires
 to-image-requires c κs = search needs
@@ -78,8 +78,8 @@ returns-3 c =
     cell-made (a .live) (a .left .now) (a .right .now) (a .«data» .now) (a .offset) (a .at)
     (inside .inside .given .0 .0) _ (cell .new-cell .result) (a .side) _
     (start .pre .0) (start .pre .1) (start .pre .2)
-    (met (a .live) (a .left .now) (a .right .now) _ _ _ (start .pre .3) (at .at-state .ensures)
-    (not-false (at .at-state .result) (test .if1 .left)))
+    (met (a .live) (a .left .now) (a .right .now) _ _ _ (start .pre .3) (at .is-at .ensures)
+    (not-false (at .is-at .result) (test .if1 .left)))
     (sym (image .to-image .ensures) ∙ inside .inside .given .1)
     (old .old-image .ensures) (cell .new-cell .ensures) (start .pre .4) (made .make .ensures)
 
@@ -87,7 +87,7 @@ pub try-cell-spec : {M : Type 1} → statement M
 try-cell-spec =
     tie.close
     (tie.spec
-    at-state-requires
+    is-at-requires
     same-length
     same-length-2
     returns

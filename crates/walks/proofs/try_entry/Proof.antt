@@ -5,8 +5,8 @@ use borrow.Author.Needs.{needs}
 use Rattle.walks.proofs.try_entry.Statement.{statement}
 use Rattle.walks.proofs.try_entry.Tie as tie
 
-at-state-requires : tie.Need-at-state-requires
-at-state-requires c κs = search needs
+is-at-requires : tie.Need-is-at-requires
+is-at-requires c κs = search needs
 
 make-requires : tie.Need-make-requires
 make-requires c κs = search needs
@@ -21,7 +21,7 @@ returns : tie.Need-returns
 returns c =
     let at = c .before .before .before .before .before .before .before .before in
     try-met (at .before .before .before .before .before .args .x) _ _ _
-    (sym (at .at-state .ensures) ∙ c .before .before .before .before .before .before .before .if1 .taken)
+    (sym (at .is-at .ensures) ∙ c .before .before .before .before .before .before .before .if1 .taken)
     (c .before .before .before .before .make .ensures)
 
 same-length-3 : tie.Need-same-length-3
@@ -33,13 +33,13 @@ same-length-4 c = search needs
 returns-2 : tie.Need-returns-2
 returns-2 c =
     try-unmet (c .before .before .before .before .before .before .args .x) _ _
-    (sym (c .before .at-state .ensures) ∙ c .if1 .left)
+    (sym (c .before .is-at .ensures) ∙ c .if1 .left)
 
 pub try-entry-spec : {M : Type 1} → statement M
 try-entry-spec =
     tie.close
     (tie.spec
-    at-state-requires
+    is-at-requires
     make-requires
     same-length
     same-length-2

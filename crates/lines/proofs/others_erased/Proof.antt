@@ -1,12 +1,12 @@
--- `walks::others_erased` meets its contract: the live side says which pages count. Assumes nothing.
+-- `lines::others_erased` meets its contract: the live side says which pages count. Assumes nothing.
 use mathlib.Core.Path.{sym, _∙_}
 use borrow.Author.Tests.{not-true, not-false}
 use Rattle.pages.specs.declared.Side.the-variants.{Left, Right}
 use Rattle.plans.proofs.Laws.{on-side}
-use Rattle.walks.proofs.Numbers.{none-first, none-second, on-left, on-right}
+use Rattle.lines.proofs.Laws.{none-first, none-second, on-left, on-right}
 use borrow.Author.Needs.{needs}
-use Rattle.walks.proofs.others_erased.Statement.{statement}
-use Rattle.walks.proofs.others_erased.Tie as tie
+use Rattle.lines.proofs.others_erased.Statement.{statement}
+use Rattle.lines.proofs.others_erased.Tie as tie
 
 enum-told : tie.Need-enum-told
 enum-told c = search needs

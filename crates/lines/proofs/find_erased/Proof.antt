@@ -1,10 +1,10 @@
--- `walks::find_erased` meets its contract: no page is looked through where erased-or-not doesn't count.
+-- `lines::find_erased` meets its contract: no page is looked through where erased-or-not doesn't count.
 -- Assumes nothing.
 use mathlib.Core.Path.{sym, _∙_}
-use Rattle.walks.proofs.Numbers.{erased-counts, erased-idle}
+use Rattle.lines.proofs.Laws.{erased-counts, erased-idle}
 use borrow.Author.Needs.{needs}
-use Rattle.walks.proofs.find_erased.Statement.{statement}
-use Rattle.walks.proofs.find_erased.Tie as tie
+use Rattle.lines.proofs.find_erased.Statement.{statement}
+use Rattle.lines.proofs.find_erased.Tie as tie
 
 counts-erased-requires : tie.Need-counts-erased-requires
 counts-erased-requires c κs = search needs

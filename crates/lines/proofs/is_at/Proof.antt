@@ -1,4 +1,4 @@
--- `walks::at_state` meets its contract: at line 0 by the look-up, elsewhere by the two words of the row.
+-- `lines::is_at` meets its contract: at line 0 by the look-up, elsewhere by the two words of the row.
 -- Assumes nothing.
 use Prim.Native.Nat.{ℕ}
 use mathlib.Core.Path.{ap, ap₂, _∙_}
@@ -6,10 +6,10 @@ use native.Mathlib.Omega.{arith}
 use lib.Dec.{eqb}
 use Rattle.pages.specs.declared.Status.{Status}
 use Rattle.pages.specs.Pages.{lineOf, statusOf}
-use Rattle.walks.proofs.Lines.{at-none, left-differs, right-decides}
+use Rattle.lines.proofs.Words.{at-none, left-differs, right-decides}
 use borrow.Author.Needs.{needs}
-use Rattle.walks.proofs.at_state.Statement.{statement}
-use Rattle.walks.proofs.at_state.Tie as tie
+use Rattle.lines.proofs.is_at.Statement.{statement}
+use Rattle.lines.proofs.is_at.Tie as tie
 
 line-requires : tie.Need-line-requires
 line-requires c κs = search needs
@@ -49,8 +49,8 @@ returns-3 c =
     ap₂ eqb (c .before .word2 .ensures) (c .right-word .ensures)
     ∙ right-decides (a .wanted) (a .left .now) (a .right .now) (omega arith) (omega arith)
 
-pub at-state-spec : {M : Type 1} → statement M
-at-state-spec =
+pub is-at-spec : {M : Type 1} → statement M
+is-at-spec =
     tie.close
     (tie.spec
     line-requires

@@ -1,14 +1,14 @@
--- `walks::counts_erased` meets its contract: the line's number decides. Assumes nothing.
+-- `lines::counts_erased` meets its contract: the line's number decides. Assumes nothing.
 use mathlib.Core.Path.{sym, ap, _∙_}
 use Prim.Native.Nat.{ℕ}
 use native.Mathlib.Omega.{arith}
 use lib.Dec.{eqb}
 use Rattle.plans.specs.declared.Request.{Request}
 use Rattle.plans.specs.Plans.{counts}
-use Rattle.walks.proofs.Numbers.{counts-none, counts-one, counts-eight, counts-format}
+use Rattle.lines.proofs.Laws.{counts-none, counts-one, counts-eight, counts-format}
 use borrow.Author.Needs.{needs}
-use Rattle.walks.proofs.counts_erased.Statement.{statement}
-use Rattle.walks.proofs.counts_erased.Tie as tie
+use Rattle.lines.proofs.counts_erased.Statement.{statement}
+use Rattle.lines.proofs.counts_erased.Tie as tie
 
 line-requires : tie.Need-line-requires
 line-requires c κs = search needs

@@ -54,7 +54,6 @@ pub enum Spot {
 }
 
 // ---- how many steps
-// ---- how many steps
 // What a save's steps are more than its image cells, 3 of them after these and the others before.
 fn added_steps(start: State, erased: bool) -> u32
     ensures { λ r. ⌜ r ≡ added start erased ⌝ }
@@ -126,7 +125,6 @@ fn live_of(state: State) -> Live
     }
 }
 
-// ---- the entries of the list
 // One of the erases of both pages.
 fn erase_entry(place: u32) -> Entry
     ensures { λ r. ⌜ r ≡ getD erasesBoth place nothing ⌝ }

@@ -23,10 +23,11 @@ length-overlaid image o d h =
     simp (length-append, a, b) (omega arith)
 
 -- a place in the second of two lists
-later : (xs ys : List ℕ) (i n : ℕ) → length xs ≡ n → n ≤ i → getD (xs ++ ys) i 0 ≡ getD ys (i - n) 0
-later xs ys i n e h =
+pub getD-later : {A : Type 0} (xs ys : List A) (z : A) (i n : ℕ) → length xs ≡ n → n ≤ i
+    → getD (xs ++ ys) i z ≡ getD ys (i - n) z
+getD-later xs ys z i n e h =
     let k : i ≡ length xs + (i - n) = omega arith in
-    ap (λ (j : ℕ). getD (xs ++ ys) j 0) k ∙ getD-append-add xs ys (i - n) 0
+    ap (λ (j : ℕ). getD (xs ++ ys) j z) k ∙ getD-append-add xs ys (i - n) z
 
 -- a byte that the data doesn't reach is kept, one that it reaches is the data's
 before : (image : List ℕ) (o : ℕ) (d : List ℕ) (i : ℕ) → o ≤ length image → i < o
@@ -41,8 +42,8 @@ after : (image : List ℕ) (o : ℕ) (d : List ℕ) (i : ℕ) → o ≤ length i
 unfolding overlaid
 after image o d i h k =
     let e : (o + length d) + ((i - o) - length d) ≡ i = omega arith in
-    later (take o image) (d ++ drop (o + length d) image) i o (length-take-le o image h) (omega arith)
-    ∙ later d (drop (o + length d) image) (i - o) (length d) refl (omega arith)
+    getD-later (take o image) (d ++ drop (o + length d) image) 0 i o (length-take-le o image h) (omega arith)
+    ∙ getD-later d (drop (o + length d) image) 0 (i - o) (length d) refl (omega arith)
     ∙ getD-drop (o + length d) image ((i - o) - length d) 0
     ∙ ap (λ (j : ℕ). getD image j 0) e
 
@@ -57,7 +58,7 @@ pub byte-inside : (image : List ℕ) (o : ℕ) (d : List ℕ) (i : ℕ) → o �
     → getD (overlaid image o d) i 0 ≡ getD d (i - o) 0
 unfolding overlaid
 byte-inside image o d i h j k =
-    later (take o image) (d ++ drop (o + length d) image) i o (length-take-le o image h) j
+    getD-later (take o image) (d ++ drop (o + length d) image) 0 i o (length-take-le o image h) j
     ∙ List·getD-append d (drop (o + length d) image) 0 (i - o) (omega arith)
 
 -- so what holds of it either way holds of it

@@ -8,8 +8,9 @@ use mathlib.Core.Bool.{Bool, true, false, cond, _&&_}
 use mathlib.Core.List.{List, [], _∷_, _++_}
 use native.Mathlib.Omega.{arith}
 use lib.ListN.{length, getD, List·getD-append}
-use lib.Seq.{getD-append-add}
+use Rattle.images.proofs.Overlay.{getD-later}
 use Rattle.flash.specs.Flash.{cellNumber, cellAt}
+use Rattle.flash.proofs.Laws.{and-true}
 use Rattle.pages.specs.declared.Side.{Side}
 use Rattle.pages.specs.declared.Side.the-variants.{Left, Right}
 use Rattle.pages.specs.declared.State.{State}
@@ -182,10 +183,6 @@ and-false : (t : Bool) → (t && false) ≡ false
 and-false true = refl
 and-false false = refl
 
-and-true : (t : Bool) → (t && true) ≡ t
-and-true true = refl
-and-true false = refl
-
 -- a format's steps: none where both pages are erased, else the deciding store, then the erases of both pages
 pub format-written : (start : State) (erased : Bool) → erased ≡ false → 3 ≡ formatCount start erased
 format-written start erased e =
@@ -235,12 +232,6 @@ mark-at live place k e = ap (λ (n : ℕ). getD (marks live) n nothing) (sym e)
 before-seam : (xs ys : List Entry) (k : ℕ) → k < length xs → getD (xs ++ ys) k nothing ≡ getD xs k nothing
 before-seam xs ys k h = List·getD-append xs ys nothing k h
 
-after-seam : (xs ys : List Entry) (n k : ℕ) → length xs ≡ n → n ≤ k
-    → getD (xs ++ ys) k nothing ≡ getD ys (k - n) nothing
-after-seam xs ys n k e h =
-    let p : k ≡ length xs + (k - n) = omega arith in
-    ap (λ (j : ℕ). getD (xs ++ ys) j nothing) p ∙ getD-append-add xs ys (k - n) nothing
-
 -- the k-th image cell is at twice k, and holds what the image holds there
 pub cells-at : (state : State) (s : Side) (i : ℕ) (image : List ℕ) (k : ℕ) → k * 2 + 1 < length image
     → getD (cells state s i image) k nothing
@@ -282,7 +273,7 @@ save-cell start erased new place k v h e p =
     let live = liveOf start in
     let list = cells (clean live) (target live) 0 new in
     let z : 0 + k * 2 ≡ k * 2 = omega arith in
-    sym (after-seam (ready start erased) (list ++ marks live) (added start erased - 3) place
+    sym (getD-later (ready start erased) (list ++ marks live) nothing place (added start erased - 3)
     (ready-count start erased) h
     ∙ ap (λ (n : ℕ). getD (list ++ marks live) n nothing) (sym e)
     ∙ before-seam list (marks live) k (omega (arith, cells-length (clean live) (target live) 0 new v))
@@ -296,10 +287,10 @@ unfolding saving
 save-mark start erased new place k v h e p =
     let live = liveOf start in
     let list = cells (clean live) (target live) 0 new in
-    sym (after-seam (ready start erased) (list ++ marks live) (added start erased - 3) place
+    sym (getD-later (ready start erased) (list ++ marks live) nothing place (added start erased - 3)
     (ready-count start erased) h
     ∙ ap (λ (n : ℕ). getD (list ++ marks live) n nothing) (sym e)
-    ∙ after-seam list (marks live) (length new / 2) k (cells-length (clean live) (target live) 0 new v) p)
+    ∙ getD-later list (marks live) nothing k (length new / 2) (cells-length (clean live) (target live) 0 new v) p)
 
 pub ready-inside : (start : State) (erased : Bool) (place : ℕ) → place < added start erased - 3
     → place < length (ready start false)

@@ -4,7 +4,7 @@
 -- Assumes nothing.
 use Prim.Native.Nat.{ℕ, _-_}
 use mathlib.Core.Path.{_≡_, refl, sym, ap, subst, _∙_}
-use mathlib.Core.Bool.{Bool, true, false, not, _||_}
+use mathlib.Core.Bool.{false, not, _||_}
 use mathlib.Core.List.{List}
 use native.Mathlib.Omega.{arith}
 use lib.Dec.{eqb}
@@ -16,7 +16,7 @@ use Rattle.pages.specs.declared.Live.{Live}
 use Rattle.pages.specs.declared.Live.the-variants.{Nowhere, On}
 use Rattle.pages.specs.Pages.{onSide, liveOf, statusOf}
 use Rattle.requests.specs.Numbers.{requestNumber}
-use Rattle.requests.proofs.Laws.{Legal, legal}
+use Rattle.requests.proofs.Laws.{Legal, or-left, or-right, legal}
 use Rattle.images.specs.Images.{imageOn, liveImage, orBlank}
 use Rattle.images.proofs.Overlay.{length-overlaid}
 use Rattle.plans.specs.Plans.{plan}
@@ -45,12 +45,6 @@ new-length v l r p o d e f h =
     length-overlaid base (o - 4) d (omega (arith, h .ends, h .inImage)) ∙ n
 
 -- what right numbers say of a walk and the pages
-or-first : (a b c e : Bool) → (a || b || c || e) ≡ false → (a ≡ false) × (b ≡ false) × (c ≡ false) × (e ≡ false)
-or-first true b c e q = (q, cc, cc, cc)
-or-first false true c e q = (refl, q, cc, cc)
-or-first false false true e q = (refl, refl, q, cc)
-or-first false false false e q = (refl, refl, refl, q)
-
 pub record RightNumbers (w : Walk) (p q n : ℕ) : Type 0 where
   pub request : Legal p q (w .offset .0) (w .len)
   pub page : p ≡ w .page
@@ -60,18 +54,21 @@ pub record RightNumbers (w : Walk) (p q n : ℕ) : Type 0 where
 pub right-numbers : (w : Walk) (p q n : ℕ) → wrongNumbers w p q n ≡ false → RightNumbers w p q n
 unfolding wrongNumbers
 right-numbers w p q n e =
-    let t =
-    or-first (not (eqb (requestNumber p q (w .offset .0) (w .len) 0) 0)) (not (eqb p (w .page))) (not (eqb n (w .len)))
-    (wrongFormat (w .request) (w .offset .0) (w .len)) e in
+    let a = not (eqb (requestNumber p q (w .offset .0) (w .len) 0) 0) in
+    let b = not (eqb p (w .page)) in
+    let d = not (eqb n (w .len)) in
+    let f = wrongFormat (w .request) (w .offset .0) (w .len) in
+    let e₃ = or-left (a || b || d) f e in
+    let e₂ = or-left (a || b) d e₃ in
     record {
       request =
           legal p q (w .offset .0) (w .len) 0
           (eqb-true (requestNumber p q (w .offset .0) (w .len) 0) 0
-          (not-false (eqb (requestNumber p q (w .offset .0) (w .len) 0) 0) (t .0)))
+          (not-false (eqb (requestNumber p q (w .offset .0) (w .len) 0) 0) (or-left a b e₂)))
           .0;
-      page = eqb-true p (w .page) (not-false (eqb p (w .page)) (t .1));
-      size = eqb-true n (w .len) (not-false (eqb n (w .len)) (t .2));
-      format = t .3;
+      page = eqb-true p (w .page) (not-false (eqb p (w .page)) (or-right a b e₂));
+      size = eqb-true n (w .len) (not-false (eqb n (w .len)) (or-right (a || b) d e₃));
+      format = or-right (a || b || d) f e;
     }
 
 pub steps-length : (w : Walk) (l r d : List ℕ) → wrongNumbers w (length l) (length r) (length d) ≡ false

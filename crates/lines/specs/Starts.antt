@@ -1,6 +1,6 @@
 -- What a walk begins with (document 01: "The walk keeps .. the line and erased-or-not it began
 -- with").
--- Not here: when erased-or-not counts, and of which pages (the crate plans). Laws: proofs/Laws.antt.
+-- Not here: when erased-or-not counts, and of which pages (the crate plans). Laws: proofs/.
 -- Assumes nothing.
 use mathlib.Core.Bool.{_&&_}
 use mathlib.Core.List.{List}

@@ -12,9 +12,10 @@ find-erased-requires c κs = search needs
 
 returns : tie.Need-returns
 returns c =
-    let a = c .before .before .before .before .args in
-    looked (a .request) (a .left .now) (a .right .now) (c .before .status-of .result) (c .find-erased .result) (c .before .status-of .ensures)
-    (c .find-erased .ensures)
+    let status = c .before in
+    let a = status .before .before .before .args in
+    looked (a .request) (a .left .now) (a .right .now) (status .status-of .result) (c .find-erased .result)
+    (status .status-of .ensures) (c .find-erased .ensures)
 
 pub start-of-spec : {M : Type 1} → statement M
 start-of-spec = tie.close (tie.spec status-of-requires find-erased-requires returns)

@@ -8,16 +8,16 @@ use mathlib.Core.List.{List}
 use lib.Dec.{eqb}
 use borrow.Author.Tests.{eq-eqb, ne-eqb}
 use Rattle.flash.specs.Flash.{isErased}
-use Rattle.pages.specs.declared.Side.the-variants.{Left, Right}
+use Rattle.pages.specs.declared.Side.{Side}
 use Rattle.pages.specs.declared.State.{State}
 use Rattle.pages.specs.declared.Live.{Live}
 use Rattle.pages.specs.declared.Live.the-variants.{Nowhere, On}
 use Rattle.pages.specs.declared.Status.{Status}
-use Rattle.pages.specs.Pages.{statusOf, lineOf, liveOf}
+use Rattle.pages.specs.Pages.{onSide, statusOf, lineOf, liveOf}
 use Rattle.pages.proofs.Table.{status-live}
 use Rattle.plans.specs.declared.Request.{Request}
 use Rattle.plans.specs.declared.Request.the-variants.{Save, Format}
-use Rattle.plans.specs.Plans.{counts, othersErased}
+use Rattle.plans.specs.Plans.{other, counts, othersErased}
 use Rattle.lines.specs.declared.Start.{Start}
 use Rattle.lines.specs.Starts.{startOf}
 
@@ -42,11 +42,9 @@ pub none-second : (live : Live) (l r : List ℕ) (t : Bool) → live ≡ Nowhere
     → t ≡ othersErased live l r
 none-second live l r t e h k = k ∙ sym (ap (λ (x : Live). othersErased x l r) e ∙ simp h)
 
-pub on-left : (live : Live) (l r : List ℕ) (t : Bool) → live ≡ On Left → t ≡ isErased r → t ≡ othersErased live l r
-on-left live l r t e k = k ∙ ap (λ (x : Live). othersErased x l r) (sym e)
-
-pub on-right : (live : Live) (l r : List ℕ) (t : Bool) → live ≡ On Right → t ≡ isErased l → t ≡ othersErased live l r
-on-right live l r t e k = k ∙ ap (λ (x : Live). othersErased x l r) (sym e)
+pub other-erased : (live : Live) (s : Side) (l r : List ℕ) (t : Bool) → live ≡ On s → t ≡ isErased (onSide (other s) l r)
+    → t ≡ othersErased live l r
+other-erased live s l r t e k = k ∙ ap (λ (x : Live). othersErased x l r) (sym e)
 
 pub erased-counts : (a b t : Bool) → a ≡ true → t ≡ b → t ≡ (a && b)
 erased-counts a b t e h = h ∙ sym (simp e)

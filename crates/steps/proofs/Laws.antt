@@ -15,7 +15,7 @@ use borrow.Author.Tests.{ltb-true, ltb-false, lt-ltb, le-ltb}
 use borrow.Rule.Slice.PartMut.{midOf, putMid}
 use Rattle.flash.specs.Flash.{Outcome, isCell, cellAt, stored, fits, programmed, erasure}
 use Rattle.pages.specs.declared.Side.{Side}
-use Rattle.pages.specs.declared.Side.the-variants.{Left, Right}
+use Rattle.pages.specs.Pages.{onSide}
 use Rattle.pages.specs.declared.PageOffset.{PageOffset}
 use Rattle.pages.specs.declared.ImageOffset.{ImageOffset}
 use Rattle.steps.specs.declared.Step.{Step}
@@ -101,7 +101,7 @@ image-cell l i v h =
     ∙ part-programmed (take 4 l) (drop 4 l) i v e
 
 -- the image lent from byte 4 on is all that comes after, and comes back to its place
-lent : (l : List ℕ) → midOf 4 (length l - 4) l ≡ drop 4 l
+pub lent : (l : List ℕ) → midOf 4 (length l - 4) l ≡ drop 4 l
 lent l = take-all (length l - 4) (drop 4 l) (simp length-drop (omega arith))
 
 put-back : (l ys : List ℕ) → putMid 4 (length l - 4) l ys ≡ take 4 l ++ ys
@@ -130,19 +130,12 @@ no-image l i v h =
 pub blank : (l ys : List ℕ) → ys ≡ erasure l → _≡_ {A = Outcome} (record { number = 0; bytes = ys }) (blanked l)
 blank l ys e = ap (λ (x : List ℕ). record { number = 0; bytes = x }) e
 
-pub on-left : (f : List ℕ → Outcome) (l r ys : List ℕ) (k : ℕ) (s : Side) → s ≡ Left
-    → _≡_ {A = Outcome} (record { number = k; bytes = ys }) (f l)
-    → _≡_ {A = Tried} (record { number = k; left = ys; right = r }) (onPage s f l r)
-on-left f l r ys k s q e =
-    (λ i. record { number = e i .number; left = e i .bytes; right = r })
-    ∙ ap (λ (t : Side). onPage t f l r) (sym q)
-
-pub on-right : (f : List ℕ → Outcome) (l r ys : List ℕ) (k : ℕ) (s : Side) → s ≡ Right
-    → _≡_ {A = Outcome} (record { number = k; bytes = ys }) (f r)
-    → _≡_ {A = Tried} (record { number = k; left = l; right = ys }) (onPage s f l r)
-on-right f l r ys k s q e =
-    (λ i. record { number = e i .number; left = l; right = e i .bytes })
-    ∙ ap (λ (t : Side). onPage t f l r) (sym q)
+pub on-page : (t : Side) (f : List ℕ → Outcome) (l r ys : List ℕ) (k : ℕ) (s : Side) → s ≡ t
+    → _≡_ {A = Outcome} (record { number = k; bytes = ys }) (f (onSide t l r))
+    → _≡_ {A = Tried} (record { number = k; left = onSide t ys l; right = onSide t r ys }) (onPage s f l r)
+on-page t f l r ys k s q e =
+    (λ i. record { number = e i .number; left = onSide t (e i .bytes) l; right = onSide t r (e i .bytes) })
+    ∙ ap (λ (x : Side). onPage x f l r) (sym q)
 
 pub mark-tried : (step : Step) (s : Side) (at : PageOffset) (v : ℕ) (l r : List ℕ) (t : Tried) → step ≡ Mark s at v
     → t ≡ onPage s (λ page. marked page at v) l r → t ≡ tried step l r

@@ -8,7 +8,6 @@ use mathlib.Core.List.{List}
 use mathlib.Core.Option.{Option}
 use native.Mathlib.Omega.{arith}
 use lib.ListN.{length, getD, take, drop, length-drop}
-use lib.Seq.{take-all}
 use borrow.Author.Tests.{eq-eqb, ne-eqb, lt-ltb, le-ltb}
 use Rattle.flash.specs.declared.Programmed.{Programmed}
 use Rattle.flash.specs.declared.Programmed.the-variants.{Made, Unfit}
@@ -23,12 +22,13 @@ use Rattle.pages.specs.declared.PageOffset.{PageOffset}
 use Rattle.pages.specs.declared.ImageOffset.{ImageOffset}
 use Rattle.pages.specs.declared.InImage.the-variants.{At}
 use Rattle.pages.specs.Offsets.{toImage}
-use Rattle.pages.specs.Pages.{statusOf, liveOf}
+use Rattle.pages.specs.Pages.{onSide, statusOf, liveOf}
 use Rattle.pages.proofs.Laws.{image-at}
 use Rattle.pages.proofs.Table.{status-live}
 use Rattle.requests.proofs.Laws.{Legal}
 use Rattle.steps.specs.declared.Step.the-variants.{Image}
 use Rattle.steps.specs.Steps.{Tried, tried}
+use Rattle.steps.proofs.Laws.{lent}
 use Rattle.images.specs.Images.{imageOf, imageOn, liveImage, orBlank, newCell}
 use Rattle.images.proofs.Laws.{new-cell-at, new-cell-blank}
 use Rattle.plans.specs.declared.Entry.{Entry}
@@ -72,16 +72,9 @@ try-same x y l r t e h = e ∙ ap (λ (z : Entry). attempt z l r) h
 
 -- ---- an image cell tried
 -- what is lent of a page from byte 4 on is its image
-image-lent : (l : List ℕ) → take (length l - 4) (drop 4 l) ≡ imageOf l
-image-lent l = take-all (length l - 4) (drop 4 l) (simp length-drop (omega arith))
-
-pub left-image : (live : Live) (l r : List ℕ) → live ≡ On Left
-    → take (length l - 4) (drop 4 l) ≡ orBlank 0 (imageOn live l r)
-left-image live l r e = image-lent l ∙ ap (λ (x : Live). orBlank 0 (imageOn x l r)) (sym e)
-
-pub right-image : (live : Live) (l r : List ℕ) → live ≡ On Right
-    → take (length r - 4) (drop 4 r) ≡ orBlank 0 (imageOn live l r)
-right-image live l r e = image-lent r ∙ ap (λ (x : Live). orBlank 0 (imageOn x l r)) (sym e)
+pub side-image : (live : Live) (s : Side) (l r : List ℕ) → live ≡ On s
+    → take (length (onSide s l r) - 4) (drop 4 (onSide s l r)) ≡ orBlank 0 (imageOn live l r)
+side-image live s l r e = lent (onSide s l r) ∙ ap (λ (x : Live). orBlank 0 (imageOn x l r)) (sym e)
 
 -- where the pages are at the line of the image cells, the live side is the one that the walk began with
 clean-live : (live : Live) → liveOf (clean live) ≡ live

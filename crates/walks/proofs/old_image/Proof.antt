@@ -1,7 +1,7 @@
 -- `walks::old_image` meets its contract: all of the live page from byte 4 on. Assumes nothing.
 use Rattle.pages.specs.declared.Side.the-variants.{Left, Right}
 use Rattle.plans.proofs.Laws.{on-side}
-use Rattle.walks.proofs.Tries.{left-image, right-image}
+use Rattle.walks.proofs.Tries.{side-image}
 use borrow.Author.Needs.{needs}
 use Rattle.walks.proofs.old_image.Statement.{statement}
 use Rattle.walks.proofs.old_image.Tie as tie
@@ -48,12 +48,12 @@ returns c = search needs
 returns-2 : tie.Need-returns-2
 returns-2 c =
     let live = c .before .before .before .before .live .given in
-    left-image _ _ _ (on-side _ (live .0 .0) Left (live .1) (c .before .enum-told2 .given .1))
+    side-image _ Left _ _ (on-side _ (live .0 .0) Left (live .1) (c .before .enum-told2 .given .1))
 
 returns-3 : tie.Need-returns-3
 returns-3 c =
     let live = c .before .before .before .before .live .given in
-    right-image _ _ _ (on-side _ (live .0 .0) Right (live .1) (c .before .enum-told3 .given .1))
+    side-image _ Right _ _ (on-side _ (live .0 .0) Right (live .1) (c .before .enum-told3 .given .1))
 
 pub old-image-spec : {M : Type 1} → statement M
 old-image-spec =

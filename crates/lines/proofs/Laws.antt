@@ -42,8 +42,8 @@ pub none-second : (live : Live) (l r : List ℕ) (t : Bool) → live ≡ Nowhere
     → t ≡ othersErased live l r
 none-second live l r t e h k = k ∙ sym (ap (λ (x : Live). othersErased x l r) e ∙ simp h)
 
-pub other-erased : (live : Live) (s : Side) (l r : List ℕ) (t : Bool) → live ≡ On s → t ≡ isErased (onSide (other s) l r)
-    → t ≡ othersErased live l r
+pub other-erased : (live : Live) (s : Side) (l r : List ℕ) (t : Bool) → live ≡ On s
+    → t ≡ isErased (onSide (other s) l r) → t ≡ othersErased live l r
 other-erased live s l r t e k = k ∙ ap (λ (x : Live). othersErased x l r) (sym e)
 
 pub erased-counts : (a b t : Bool) → a ≡ true → t ≡ b → t ≡ (a && b)

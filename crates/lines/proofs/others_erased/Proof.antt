@@ -48,13 +48,15 @@ returns-2 c =
 returns-3 : tie.Need-returns-3
 returns-3 c =
     let at = c .before .before .before .before in
-    other-erased _ Left _ _ _ (on-side _ (at .live .given .0 .0) Left (at .live .given .1) (c .before .enum-told2 .given .1))
+    other-erased _ Left _ _ _
+    (on-side _ (at .live .given .0 .0) Left (at .live .given .1) (c .before .enum-told2 .given .1))
     (c .erased3 .ensures)
 
 returns-4 : tie.Need-returns-4
 returns-4 c =
     let at = c .before .before .before .before in
-    other-erased _ Right _ _ _ (on-side _ (at .live .given .0 .0) Right (at .live .given .1) (c .before .enum-told3 .given .1))
+    other-erased _ Right _ _ _
+    (on-side _ (at .live .given .0 .0) Right (at .live .given .1) (c .before .enum-told3 .given .1))
     (c .erased4 .ensures)
 
 pub others-erased-spec : {M : Type 1} → statement M

@@ -59,7 +59,8 @@ returns c =
     let at = c .before .before .before .before in
     let step = at .before .before .before .step .given in
     mark-tried _ (step .0 .0) (step .0 .1 .0) (step .0 .1 .1 .0) _ _ _ (step .1)
-    (on-page Left (λ page. marked page (step .0 .1 .0) (step .0 .1 .1 .0)) _ _ _ _ (step .0 .0) (at .enum-told .given .1)
+    (on-page Left (λ page. marked page (step .0 .1 .0) (step .0 .1 .1 .0)) _ _ _ _ (step .0 .0)
+    (at .enum-told .given .1)
     (c .before .before .program-mark .ensures))
 
 same-length-2 : tie.Need-same-length-2
@@ -70,7 +71,8 @@ returns-2 c =
     let at = c .before .before .before .before in
     let step = at .before .before .before .step .given in
     mark-tried _ (step .0 .0) (step .0 .1 .0) (step .0 .1 .1 .0) _ _ _ (step .1)
-    (on-page Right (λ page. marked page (step .0 .1 .0) (step .0 .1 .1 .0)) _ _ _ _ (step .0 .0) (at .enum-told2 .given .1)
+    (on-page Right (λ page. marked page (step .0 .1 .0) (step .0 .1 .1 .0)) _ _ _ _ (step .0 .0)
+    (at .enum-told2 .given .1)
     (c .before .before .program-mark2 .ensures))
 
 same-length-3 : tie.Need-same-length-3
@@ -81,7 +83,8 @@ returns-3 c =
     let at = c .before .before .before .before in
     let step = at .before .before .before .step2 .given in
     image-tried _ (step .0 .0) (step .0 .1 .0) (step .0 .1 .1 .0) _ _ _ (step .1)
-    (on-page Left (λ page. imaged page (step .0 .1 .0) (step .0 .1 .1 .0)) _ _ _ _ (step .0 .0) (at .enum-told3 .given .1)
+    (on-page Left (λ page. imaged page (step .0 .1 .0) (step .0 .1 .1 .0)) _ _ _ _ (step .0 .0)
+    (at .enum-told3 .given .1)
     (c .before .before .program-cell .ensures))
 
 same-length-4 : tie.Need-same-length-4
@@ -92,7 +95,8 @@ returns-4 c =
     let at = c .before .before .before .before in
     let step = at .before .before .before .step2 .given in
     image-tried _ (step .0 .0) (step .0 .1 .0) (step .0 .1 .1 .0) _ _ _ (step .1)
-    (on-page Right (λ page. imaged page (step .0 .1 .0) (step .0 .1 .1 .0)) _ _ _ _ (step .0 .0) (at .enum-told4 .given .1)
+    (on-page Right (λ page. imaged page (step .0 .1 .0) (step .0 .1 .1 .0)) _ _ _ _ (step .0 .0)
+    (at .enum-told4 .given .1)
     (c .before .before .program-cell2 .ensures))
 
 same-length-5 : tie.Need-same-length-5
@@ -103,7 +107,8 @@ returns-5 c =
     let at = c .before .before .before .before in
     let step = at .before .before .before .step3 .given in
     erase-tried _ (step .0 .0) _ _ _ (step .1)
-    (on-page Left blanked _ _ _ _ (step .0 .0) (at .enum-told5 .given .1) (blank _ _ (c .before .before .erase .ensures)))
+    (on-page Left blanked _ _ _ _ (step .0 .0)
+    (at .enum-told5 .given .1) (blank _ _ (c .before .before .erase .ensures)))
 
 same-length-6 : tie.Need-same-length-6
 same-length-6 c = search needs
@@ -113,7 +118,8 @@ returns-6 c =
     let at = c .before .before .before .before in
     let step = at .before .before .before .step3 .given in
     erase-tried _ (step .0 .0) _ _ _ (step .1)
-    (on-page Right blanked _ _ _ _ (step .0 .0) (at .enum-told6 .given .1) (blank _ _ (c .before .before .erase2 .ensures)))
+    (on-page Right blanked _ _ _ _ (step .0 .0)
+    (at .enum-told6 .given .1) (blank _ _ (c .before .before .erase2 .ensures)))
 
 pub make-spec : {M : Type 1} → statement M
 make-spec =

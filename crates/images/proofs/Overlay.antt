@@ -1,15 +1,26 @@
 -- Laws of laying bytes in.
 -- In order: the length; a byte before, inside and after the data; the data read back; laid in twice; two that don't
--- overlap.
+-- overlap; one right after another.
 -- Assumes nothing.
 use Prim.Native.Nat.{ℕ, _+_, _-_, _<_, _≤_}
 use mathlib.Core.Path.{_≡_, refl, sym, ap, _∙_}
 use mathlib.Core.Bool.{Bool, true, false}
-use mathlib.Core.List.{List, _++_}
+use mathlib.Core.List.{List, _++_, append-assoc}
 use mathlib.Core.Logic.{_⊎_, inl, inr, ⊎-elim}
 use native.Mathlib.Omega.{arith}
 use lib.ListN.{length, getD, take, drop, length-append, length-drop, List·getD-append}
-use lib.Seq.{length-take-le, getD-take, getD-drop, getD-append-add, drop-at, take-append-seam, ext-getD}
+use lib.Seq.{
+  length-take-le,
+  getD-take,
+  getD-drop,
+  getD-append-add,
+  drop-at,
+  drop-drop,
+  drop-append-add,
+  take-at,
+  take-append-seam,
+  ext-getD,
+}
 use lib.Dec.{ltb, leb}
 use borrow.Author.Tests.{ltb-true, ltb-false, leb-true, leb-false}
 use Rattle.images.specs.Images.{overlaid}
@@ -123,3 +134,25 @@ overlaid-apart image o d o′ d′ h h′ e =
     (λ a b.
     sym (byte-outside (overlaid image o′ d′) o d i (omega arith) (apart-outside o d o′ d′ i e a b)
     ∙ byte-inside image o′ d′ i (omega arith) a b)))
+
+-- data laid in right after other data
+pub overlaid-next : (xs : List ℕ) (i : ℕ) (d e : List ℕ) → i ≤ length xs
+    → overlaid (overlaid xs i d) (i + length d) e ≡ overlaid xs i (d ++ e)
+unfolding overlaid
+overlaid-next xs i d e h =
+    let f = take i xs ++ d in
+    let t = drop (i + length d) xs in
+    let n : length (take i xs) ≡ i = length-take-le i xs h in
+    let m : length (take i xs ++ d) ≡ i + length d = length-append (take i xs) d ∙ ap (λ (k : ℕ). k + length d) n in
+    let split : take i xs ++ (d ++ drop (i + length d) xs) ≡ (take i xs ++ d) ++ drop (i + length d) xs =
+    sym (append-assoc (take i xs) d t) in
+    let front : take (i + length d) (f ++ t) ≡ f = take-at f t (i + length d) m in
+    let ends : i + length d + length e ≡ i + length (d ++ e) =
+    let k : length (d ++ e) ≡ length d + length e = length-append d e in
+    omega arith in
+    let back : drop (i + length d + length e) (f ++ t) ≡ drop (i + length (d ++ e)) xs =
+    ap (λ (k : ℕ). drop (k + length e) (f ++ t)) (sym m) ∙ drop-append-add f t (length e)
+    ∙ drop-drop (length e) (i + length d) xs ∙ ap (λ (k : ℕ). drop k xs) ends in
+    ap (λ (z : List ℕ). take (i + length d) z ++ (e ++ drop (i + length d + length e) z)) split
+    ∙ (λ j. front j ++ (e ++ back j)) ∙ append-assoc (take i xs) d (e ++ drop (i + length (d ++ e)) xs)
+    ∙ ap (λ (z : List ℕ). take i xs ++ z) (sym (append-assoc d e (drop (i + length (d ++ e)) xs)))

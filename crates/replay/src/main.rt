@@ -1,0 +1,182 @@
+// Replays a script of calls on two dumps, and prints what the board answers and what its pages then
+// hold; or cuts the script's last save after each number of its steps. What it reads and prints is
+// in docs/FORMATS.md.
+use listings::Checked;
+use loads::Input;
+use loads::Name;
+ghost use Prim.Native.Nat.{_≤_};
+
+// ---- the runs
+fn run_cuts(
+    left_name: &[u8],
+    right_name: &[u8],
+    script_name: &[u8],
+    text: &[u8],
+    left: &mut [u8],
+    right: &mut [u8],
+) {
+    let last = cuts::last_save(text, left, right);
+    if last.number == 0 {
+        listings::fail(script_name, b": no save in it is begun\n");
+        return;
+    }
+    views::heading(left_name, right_name, left.len());
+    cuts::run(text, last, left, right);
+}
+
+// Runs a script if its lines are right.
+fn run(
+    left_name: &[u8],
+    right_name: &[u8],
+    script_name: &[u8],
+    text: &[u8],
+    left: &mut [u8],
+    right: &mut [u8],
+    cuts: bool,
+) {
+    let Checked::Calls(calls) = listings::check(script_name, text) else {
+        return;
+    };
+    if cuts {
+        run_cuts(left_name, right_name, script_name, text, left, right);
+    } else {
+        views::heading(left_name, right_name, left.len());
+        timelines::run(text, left, right, calls);
+    }
+}
+
+// ---- the files
+// Loads a script, which has fewer bytes than the buffer.
+fn load_script(name: &[u8], text: &mut [u8]) -> Input {
+    let Input::Bytes(size) = loads::load_file(name, text) else {
+        return Input::Wrong;
+    };
+    if size < text.len() {
+        return Input::Bytes(size);
+    }
+    listings::fail(name, b": more than 65535 bytes\n");
+    Input::Wrong
+}
+
+// Loads the script and runs it on the pages.
+fn run_pages(
+    left_name: &[u8],
+    right_name: &[u8],
+    script_name: &[u8],
+    left: &mut [u8],
+    right: &mut [u8],
+    cuts: bool,
+) {
+    let mut space = [0u8; 65536];
+    let Input::Bytes(size) = load_script(script_name, &mut space) else {
+        return;
+    };
+    let text = loads::first(&space, size);
+    run(left_name, right_name, script_name, text, left, right, cuts);
+}
+
+// Runs the script on the first bytes of two buffers.
+fn trim_pages(
+    left_name: &[u8],
+    right_name: &[u8],
+    script_name: &[u8],
+    left: &mut [u8],
+    right: &mut [u8],
+    page: usize,
+    cuts: bool,
+) {
+    if left.len() < page {
+        return;
+    }
+    if right.len() < page {
+        return;
+    }
+    run_pages(
+        left_name,
+        right_name,
+        script_name,
+        &mut left[0..page],
+        &mut right[0..page],
+        cuts,
+    );
+}
+
+// The buffers have a byte more than a page may have, so that a longer file is seen.
+fn run_files(left_name: &[u8], right_name: &[u8], script_name: &[u8], cuts: bool) {
+    let mut left = [0u8; 4097];
+    let mut right = [0u8; 4097];
+    let Input::Bytes(page) = loads::load_pages(left_name, &mut left, right_name, &mut right) else {
+        return;
+    };
+    trim_pages(
+        left_name,
+        right_name,
+        script_name,
+        &mut left,
+        &mut right,
+        page,
+        cuts,
+    );
+}
+
+// ---- the arguments
+// Whether the first argument asks for cuts.
+fn wants_cuts() -> bool {
+    let mut word = [0u8; 6];
+    let size = os::arg(1, &mut word);
+    check::same(loads::first(&word, size), b"--cuts")
+}
+
+// Which argument is the first name.
+fn first_name(cuts: bool) -> usize
+    ensures { λ r. ⌜ r ≤ 2 ⌝ }
+{
+    if cuts { 2 } else { 1 }
+}
+
+// Each name is taken in its turn, and the files are run with all three.
+fn take_script(left_name: &[u8], right_name: &[u8], cuts: bool) {
+    let mut space = [0u8; loads::NAME_SIZE];
+    let Name::Given(size) = loads::argument(first_name(cuts) + 2, &mut space) else {
+        return;
+    };
+    run_files(left_name, right_name, loads::first(&space, size), cuts);
+}
+
+fn take_right(left_name: &[u8], cuts: bool) {
+    let mut space = [0u8; loads::NAME_SIZE];
+    let Name::Given(size) = loads::argument(first_name(cuts) + 1, &mut space) else {
+        return;
+    };
+    take_script(left_name, loads::first(&space, size), cuts);
+}
+
+fn take_names(cuts: bool) {
+    let mut space = [0u8; loads::NAME_SIZE];
+    let Name::Given(size) = loads::argument(first_name(cuts), &mut space) else {
+        return;
+    };
+    take_right(loads::first(&space, size), cuts);
+}
+
+fn run_sample(cuts: bool) {
+    run_files(
+        b"samples/story-left.bin",
+        b"samples/story-right.bin",
+        b"samples/story.txt",
+        cuts,
+    );
+}
+
+fn main() {
+    let cuts = wants_cuts();
+    let first = first_name(cuts);
+    let count = os::arg_count();
+    if count <= first {
+        run_sample(cuts);
+    } else if count == first + 3 {
+        take_names(cuts);
+    } else {
+        prints::text(b"failed: usage: replay [--cuts] [LEFT RIGHT SCRIPT]\n");
+    }
+}

@@ -1,0 +1,190 @@
+-- A script that was found whole, call by call.
+-- In order: what lies ahead; at first; after a call; at the end.
+-- Assumes nothing.
+use Prim.Native.Nat.{ℕ, _+_, _-_, _<_, _≤_}
+use mathlib.Core.Path.{_≡_, refl, sym, ap, subst, _∙_}
+use mathlib.Core.Bool.{Bool, true, false, cond}
+use mathlib.Core.List.{List, [], _∷_}
+use mathlib.Core.Option.{Option, none, some}
+use native.Mathlib.Omega.{arith}
+use lib.Dec.{ltb}
+use lib.ListN.{length, drop, length-drop}
+use borrow.Author.Tests.{ltb-false}
+use Rattle.model.specs.Board.{Board, answers, boardAfter}
+use Rattle.scripts.specs.declared.Item.{Item}
+use Rattle.scripts.specs.declared.Item.the-variants.{
+  Save,
+  Format,
+  Steps,
+  StepWith,
+  Read,
+  ReadInto,
+  Cut,
+  Malformed,
+}
+use Rattle.scripts.specs.declared.Verdict.the-variants.{Whole}
+use Rattle.scripts.specs.Scripts.{
+  Order,
+  First,
+  firstOf,
+  itemIn,
+  Findings,
+  orders,
+  malformed,
+  noRoom,
+  verdictOf,
+  before,
+  judged,
+  sizeOf,
+  roomOf,
+  checkedFrom,
+  checked,
+}
+use Rattle.scripts.proofs.Laws.{size-at, first-inside, first-nine, check-at, check-end, bad-first}
+use Rattle.replays.specs.Answers.{encoded}
+use Rattle.replays.specs.Replays.{callsOf, callsFrom}
+use Rattle.replays.specs.Runs.{Run, running, ordered, followed, ordersOf}
+use Rattle.replays.proofs.Running.{run-append, run-board, run-place}
+use Rattle.replays.proofs.Room.{Fits, item-fits}
+
+-- what lies ahead at a place of the script, where so many bytes of the output are its length: the orders from there on
+-- are well formed and have room, and making their calls gives what all calls give
+pub record Ahead (s : List ℕ) (place size : ℕ) (x whole : Run) : Type 0 where
+  pub room : ℕ
+  pub rest : List Order
+  pub found : checkedFrom 0 place room (drop place s) ≡ orders rest
+  pub space : x .output .at + room ≤ size
+  pub same : running (callsFrom (x .board) rest) x ≡ whole
+
+-- ---- at first
+pub found-whole : (f : Findings) → verdictOf f ≡ Whole → f ≡ orders (ordersOf f)
+found-whole (orders xs) e = refl
+found-whole (malformed at) e = cc
+found-whole (noRoom at) e = cc
+
+pub ahead : (s : List ℕ) (size : ℕ) (x : Run) → x .output .at ≡ 0 → verdictOf (checked s size) ≡ Whole
+    → Ahead s 0 size x (running (callsFrom (x .board) (ordersOf (checked s size))) x)
+ahead s size x z v =
+    record {
+      room = size;
+      rest = ordersOf (checked s size);
+      found = found-whole (checked s size) v;
+      space = omega arith;
+      same = refl;
+    }
+
+-- ---- after a call
+-- the findings after a call that is well formed and has room
+record Judged (f : First) (room : ℕ) (after : Findings) (rest : List Order) : Type 0 where
+  pub has : f .room ≤ room
+  pub next : List Order
+  pub found : after ≡ orders next
+  pub first : rest ≡ f .order ∷ next
+
+judged-on : (f : First) (at room : ℕ) (after : Findings) (rest : List Order)
+    → judged (some f) at room after ≡ orders rest → Judged f room after rest
+judged-on f at room after rest e = go (ltb room (f .room)) after refl e
+  where
+    go : (t : Bool) (g : Findings) → ltb room (f .room) ≡ t → cond t (noRoom at) (before (f .order) g) ≡ orders rest
+        → Judged f room g rest
+    go true g q h = let z : _≡_ {A = ℕ} 0 1 = cc in absurd (omega arith)
+    go false (orders xs) q h =
+        record { has = ltb-false room (f .room) q; next = xs; found = refl; first = sym (ap ordersOf h) }
+    go false (malformed p) q h = let z : _≡_ {A = ℕ} 0 1 = cc in absurd (omega arith)
+    go false (noRoom p) q h = let z : _≡_ {A = ℕ} 0 1 = cc in absurd (omega arith)
+
+-- an item that isn't malformed takes nine bytes at least
+item-nine : (s : List ℕ) (place : ℕ) (f : First) (x : Item) → itemIn s place x ≡ some f → 9 ≤ f .size
+item-nine s place f (Save o n) e = let h : 9 + n ≡ f .size = ap sizeOf e in omega arith
+item-nine s place f Format e = let h : 9 ≡ f .size = ap sizeOf e in omega arith
+item-nine s place f (Steps n) e = let h : 9 ≡ f .size = ap sizeOf e in omega arith
+item-nine s place f (StepWith n) e = let h : 9 + n ≡ f .size = ap sizeOf e in omega arith
+item-nine s place f (Read o n) e = let h : 9 ≡ f .size = ap sizeOf e in omega arith
+item-nine s place f (ReadInto o n) e = let h : 9 + n ≡ f .size = ap sizeOf e in omega arith
+item-nine s place f Cut e = let h : 9 ≡ f .size = ap sizeOf e in omega arith
+item-nine s place f Malformed e = let z : _≡_ {A = ℕ} 0 1 = cc in absurd (omega arith)
+
+-- the calls of an order, and then those of the rest
+order-then : (o : Order) (next : List Order) (x : Run)
+    → running (callsFrom (x .board) (o ∷ next)) x
+    ≡ running (callsFrom (ordered o x .board) next) (ordered o x)
+unfolding callsFrom
+order-then o next x =
+    let cs = callsOf (x .board .hand) o in
+    run-append cs (callsFrom (boardAfter (x .board) cs) next) x
+    ∙ ap (λ (b : Board). running (callsFrom b next) (running cs x)) (sym (run-board cs x))
+
+-- what a call needs, and what lies ahead after it
+pub record Passed (s : List ℕ) (place size n : ℕ) (item : Item) (x whole : Run) : Type 0 where
+  pub nine : place + 9 ≤ length s
+  pub inside : place + n ≤ length s
+  pub more : 0 < n
+  pub has : x .output .at + roomOf (itemIn s place item) ≤ size
+  pub onward : Ahead s (place + n) size (followed (itemIn s place item) x) whole
+
+pub pass : (s : List ℕ) (place size n : ℕ) (item : Item) (x whole : Run) → place < length s
+    → itemIn s place item ≡ firstOf (drop place s) → n ≡ sizeOf (itemIn [] 0 item) → Ahead s place size x whole
+    → Passed s place size n item x whole
+pass s place size n item x whole h e k a = go (itemIn s place item) refl
+  where
+    go : (g : Option First) → itemIn s place item ≡ g → Passed s place size n item x whole
+    go none q =
+        let len : length (drop place s) ≡ length s - place = length-drop place s in
+        let bad = bad-first (drop place s) place (a .room) (omega arith) (sym e ∙ q) in
+        let found = a .found in
+        let z : _≡_ {A = ℕ} 0 1 = cc in absurd (omega arith)
+    go (some f) q =
+        let first : firstOf (drop place s) ≡ some f = sym e ∙ q in
+        let size-f : sizeOf (firstOf (drop place s)) ≡ f .size = ap sizeOf first in
+        let room-f : roomOf (itemIn s place item) ≡ f .room = ap roomOf q in
+        let n-f : n ≡ f .size = size-at s place n item e k ∙ size-f in
+        let least : 9 ≤ f .size = item-nine s place f item q in
+        let some-size : sizeOf (firstOf (drop place s)) ≡ 0 → ⊥ = λ u. absurd (omega arith) in
+        let len : length (drop place s) ≡ length s - place = length-drop place s in
+        let nine : 9 ≤ length (drop place s) = first-nine (drop place s) some-size in
+        let inside : sizeOf (firstOf (drop place s)) ≤ length (drop place s) = first-inside (drop place s) in
+        let j =
+        judged-on f place (a .room) _ (a .rest)
+        (sym
+        (ap
+        (λ (g : Option First). judged g place (a .room)
+        (checkedFrom 0 (place + sizeOf g) (a .room - roomOf g) (drop (place + sizeOf g) s)))
+        first)
+        ∙ sym (check-at s place (a .room) h some-size) ∙ a .found) in
+        let cs = callsOf (x .board .hand) (f .order) in
+        let written : running cs x .output .at ≡ x .output .at + length (encoded (answers
+        (x .board) cs)) = run-place cs x in
+        let fits : length (encoded (answers (x .board) cs)) ≤ f .room =
+        subst (Fits (x .board)) q (item-fits s place (x .board) item) in
+        let space = a .space in
+        let has = j .has in
+        record {
+          nine = omega arith;
+          inside = omega arith;
+          more = omega arith;
+          has = omega arith;
+          onward =
+              subst (λ (g : Option First). Ahead s (place + n) size (followed g x) whole) (sym q)
+              (record {
+                room = a .room - f .room;
+                rest = j .next;
+                found =
+                    ap (λ (m : ℕ). checkedFrom 0 (place + m) (a .room - f .room) (drop (place + m) s)) n-f
+                    ∙ j .found;
+                space = omega arith;
+                same =
+                    sym (order-then (f .order) (j .next) x)
+                    ∙ ap (λ (o : List Order). running (callsFrom (x .board) o) x) (sym (j .first)) ∙ a .same;
+              });
+        }
+
+pub ahead-from : (s : List ℕ) (place size : ℕ) (x y whole : Run) → y ≡ x → Ahead s place size x whole
+    → Ahead s place size y whole
+ahead-from s place size x y whole e a = subst (λ (z : Run). Ahead s place size z whole) (sym e) a
+
+-- ---- at the end
+pub at-end : (s : List ℕ) (place size : ℕ) (x whole : Run) → length s ≤ place → Ahead s place size x whole → x ≡ whole
+unfolding running callsFrom
+at-end s place size x whole h a =
+    let none-left : [] ≡ a .rest = ap ordersOf (sym (check-end s place (a .room) h) ∙ a .found) in
+    ap (λ (o : List Order). running (callsFrom (x .board) o) x) none-left ∙ a .same

@@ -1,0 +1,145 @@
+-- `replays::run` meets its contract. The loop's invariant: what lies ahead gives what the whole script gives.
+-- Assumes nothing.
+use Prim.Native.Nat.{_-_, _≤_}
+use mathlib.Core.Path.{_≡_, refl, _∙_}
+use native.Mathlib.Omega.{arith}
+use lib.ListN.{length}
+use Rattle.model.specs.Board.{powered}
+use Rattle.scripts.specs.Scripts.{checked}
+use Rattle.replays.specs.Replays.{callsFrom}
+use Rattle.replays.specs.Runs.{running, ordersOf}
+use Rattle.replays.proofs.Running.{runIn}
+use Rattle.replays.proofs.Ahead.{Ahead, ahead, ahead-from, pass, at-end}
+use borrow.Author.Needs.{needs}
+use Rattle.replays.proofs.run.Statement.{statement}
+use Rattle.replays.proofs.run.Tie as tie
+
+abbrev Inv-loop : tie.InvT-loop
+Inv-loop left₀ right₀ script out₀ hand₀ place₀ at₀ left right out hand place at =
+    (place ≤ length script)
+    × (length left ≡ length left₀)
+    × (length right ≡ length right₀)
+    × (length out ≡ length out₀)
+    × Ahead script place (length out₀) (runIn script hand left right out at)
+    (running (callsFrom (powered left₀ right₀) (ordersOf (checked script (length out₀))))
+    (record { board = powered left₀ right₀; output = record { out = out₀; at = 0 } }))
+
+abbrev μ-loop : tie.MeasureT-loop
+μ-loop left₀ right₀ script out₀ hand₀ place₀ at₀ left right out hand place at = length script - place
+
+loop-holds : tie.Need-loop-holds Inv-loop μ-loop
+loop-holds c =
+    let c4 = c .before .before .before .before in
+    let a = c4 .args in (
+      omega arith,
+      refl,
+      refl,
+      refl,
+      ahead (a .script .now) (length (a .out .now))
+          (record { board = powered (a .left .now) (a .right .now); output = record { out = a .out .now; at = 0 } })
+          refl
+          (c4 .pre),
+    )
+
+item-at-requires : tie.Need-item-at-requires Inv-loop μ-loop
+item-at-requires c κs = search needs
+
+size-requires : tie.Need-size-requires Inv-loop μ-loop
+size-requires c κs = search needs
+
+run-item-requires : tie.Need-run-item-requires Inv-loop μ-loop
+run-item-requires c κs =
+    let c3 = c .before .before .before in
+    let c4 = c3 .before in
+    let c5 = c4 .before in
+    let c6 = c5 .before in
+    let c11 = c6 .before .before .before .before .before in
+    let a = c11 .args in
+    let loop = c6 .loop in
+    let p =
+    pass (a .script .now) (loop .place) (length (a .out .now)) (c3 .size .result) (c4 .item-at .result)
+    (runIn (a .script .now) (loop .hand) (loop .left) (loop .right) (loop .out) (loop .at)) _ (c5 .loop-test .taken)
+    (c4 .item-at .ensures) (c3 .size .ensures) (loop .inv .4) in
+    (p .nine, omega (arith, p .has, loop .inv .3))
+
+add-place : tie.Need-add-place Inv-loop μ-loop
+add-place c =
+    let c10 = c .before .before .before .before .before .before .before .before .before .before in
+    let c11 = c10 .before in
+    let c12 = c11 .before in
+    let c13 = c12 .before in
+    let c18 = c13 .before .before .before .before .before in
+    let a = c18 .args in
+    let loop = c13 .loop in
+    let p =
+    pass (a .script .now) (loop .place) (length (a .out .now)) (c10 .size .result) (c11 .item-at .result)
+    (runIn (a .script .now) (loop .hand) (loop .left) (loop .right) (loop .out) (loop .at)) _ (c12 .loop-test .taken)
+    (c11 .item-at .ensures) (c10 .size .ensures) (loop .inv .4) in
+    omega (arith, p .inside)
+
+loop-less : tie.Need-loop-less Inv-loop μ-loop
+loop-less c =
+    let c10 = c .before .before .before .before .before .before .before .before .before .before in
+    let c11 = c10 .before in
+    let c12 = c11 .before in
+    let c13 = c12 .before in
+    let c18 = c13 .before .before .before .before .before in
+    let a = c18 .args in
+    let loop = c13 .loop in
+    let p =
+    pass (a .script .now) (loop .place) (length (a .out .now)) (c10 .size .result) (c11 .item-at .result)
+    (runIn (a .script .now) (loop .hand) (loop .left) (loop .right) (loop .out) (loop .at)) _ (c12 .loop-test .taken)
+    (c11 .item-at .ensures) (c10 .size .ensures) (loop .inv .4) in
+    omega (arith, p .inside, p .more)
+
+loop-again : tie.Need-loop-again Inv-loop μ-loop
+loop-again c =
+    let c6 = c .before .before .before .before .before .before in
+    let c10 = c6 .before .before .before .before in
+    let c11 = c10 .before in
+    let c12 = c11 .before in
+    let c13 = c12 .before in
+    let c18 = c13 .before .before .before .before .before in
+    let a = c18 .args in
+    let loop = c13 .loop in
+    let p =
+    pass (a .script .now) (loop .place) (length (a .out .now)) (c10 .size .result) (c11 .item-at .result)
+    (runIn (a .script .now) (loop .hand) (loop .left) (loop .right) (loop .out) (loop .at)) _ (c12 .loop-test .taken)
+    (c11 .item-at .ensures) (c10 .size .ensures) (loop .inv .4) in
+    let item = c6 .run-item in (
+      p .inside,
+      item .kept .1 .1 .1 .0 ∙ loop .inv .1,
+      item .kept .1 .1 .1 .1 .0 ∙ loop .inv .2,
+      item .kept .1 .1 .1 .1 .1 .1 .0 ∙ loop .inv .3,
+      ahead-from _ _ _ _ _ _ (item .ensures) (p .onward),
+    )
+
+same-length : tie.Need-same-length Inv-loop μ-loop
+same-length c = c .before .loop .inv .1
+
+same-length-2 : tie.Need-same-length-2 Inv-loop μ-loop
+same-length-2 c = c .before .loop .inv .2
+
+same-length-3 : tie.Need-same-length-3 Inv-loop μ-loop
+same-length-3 c = c .before .loop .inv .3
+
+returns : tie.Need-returns Inv-loop μ-loop
+returns c = at-end _ _ _ _ _ (c .loop-test .left) (c .before .loop .inv .4)
+
+pub run-spec : {M : Type 1} → statement M
+run-spec =
+    tie.close
+    (tie.spec
+    Inv-loop
+    μ-loop
+    loop-holds
+    item-at-requires
+    size-requires
+    run-item-requires
+    add-place
+    loop-less
+    loop-again
+    same-length
+    same-length-2
+    same-length-3
+    returns)

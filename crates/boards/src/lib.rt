@@ -53,6 +53,13 @@ pub fn put(from: &[u8], to: &mut [u8]) {
     bytes::copy(from, to);
 }
 
+// Copies what a read of the whole image gives to the start of a buffer, and says how long it is.
+pub fn keep_image<'a>(left: &'a [u8], right: &'a [u8], to: &mut [u8]) -> usize {
+    let now = image(left, right);
+    put(now, to);
+    now.len()
+}
+
 // ---- beginnings
 // Begins a save of the bytes of hexadecimal digits.
 pub fn begin_save(left: &[u8], right: &[u8], offset: u32, digits: &[u8]) -> Begun {
@@ -96,8 +103,8 @@ pub fn steps(count: u32, walk: Walk, left: &mut [u8], right: &mut [u8], data: &[
     now
 }
 
-// The digits of what the walk in hand is stepped with by a line: its own, unless the line is to give
-// other ones and doesn't give as many.
+// The digits of what the walk in hand is stepped with by a line: its own, unless the line is to
+// give other ones and doesn't give as many.
 pub fn step_digits<'a>(text: &'a [u8], line: &'a [u8], with: bool, board: Board) -> &'a [u8] {
     let held = texts::word(texts::line_at(text, board.at), 2);
     if !with {

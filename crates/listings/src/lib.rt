@@ -2,12 +2,7 @@
 // printed. The lines printed are in docs/FORMATS.md.
 use texts::Call;
 use texts::Fault;
-
-// How many calls a script has, or that what is wrong with it was printed.
-pub enum Checked {
-    Calls(u64),
-    Wrong,
-}
+ghost use Prim.Native.Nat.{_≤_};
 
 // Prints what stands before the word that has a fault, and after it.
 fn before_word(fault: Fault) {
@@ -62,36 +57,29 @@ fn is_right(name: &[u8], number: u64, line: &[u8]) -> bool {
     }
 }
 
-// Counts the calls of a script, if each of its lines is right.
-fn count_calls(name: &[u8], text: &[u8]) -> Checked {
+fn fail_empty(name: &[u8]) {
+    fail(name, b": no call in it\n");
+}
+
+// Whether each line of a script is right and one has a call; where it isn't so, prints what is
+// wrong.
+pub fn check(name: &[u8], text: &[u8]) -> bool {
     let mut at: usize = 0;
     let mut number: u64 = 0;
-    let mut calls: u64 = 0;
+    let mut calls = false;
     while at < text.len() {
         number += 1;
         let line = texts::line_at(text, at);
         if !is_right(name, number, line) {
-            return Checked::Wrong;
+            return false;
         }
-        if 0 < line.len() {
-            calls += 1;
-        }
+        calls = calls | (0 < line.len());
         at = texts::next_line(text, at);
     }
-    Checked::Calls(calls)
-}
-
-// Looks through all lines of a script, and prints what is wrong with the first that isn't right, or
-// that the script has no call.
-pub fn check(name: &[u8], text: &[u8]) -> Checked {
-    let checked = count_calls(name, text);
-    if let Checked::Calls(calls) = checked {
-        if calls == 0 {
-            fail(name, b": no call in it\n");
-            return Checked::Wrong;
-        }
+    if !calls {
+        fail_empty(name);
     }
-    checked
+    calls
 }
 
 fn blank_for_tab(byte: u8) -> u8 {
@@ -104,13 +92,16 @@ fn print_bytes(line: &[u8]) {
     }
 }
 
-// Prints a line that has a call with its number, tabs as blanks.
-pub fn print_line(number: u64, line: &[u8]) {
+// Prints a line that has a call with its number, tabs as blanks, and says how many calls it has.
+pub fn print_line(number: u64, line: &[u8]) -> u64
+    ensures { λ r. ⌜ r ≤ 1 ⌝ }
+{
     if line.len() == 0 {
-        return;
+        return 0;
     }
     prints::labelled(b"script line ", number);
     prints::text(b": ");
     print_bytes(line);
     prints::text(b"\n");
+    1
 }

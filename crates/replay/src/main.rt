@@ -1,60 +1,44 @@
 // Replays a script of calls on two dumps, and prints what the board answers and what its pages then
 // hold; or cuts the script's last save after each number of its steps. What it reads and prints is
 // in docs/FORMATS.md.
-use listings::Checked;
 use loads::Input;
 use loads::Name;
 ghost use Prim.Native.Nat.{_≤_};
 
-// ---- the runs
-fn run_cuts(
-    left_name: &[u8],
-    right_name: &[u8],
-    script_name: &[u8],
-    text: &[u8],
-    left: &mut [u8],
-    right: &mut [u8],
-) {
-    let last = cuts::last_save(text, left, right);
-    if last.number == 0 {
-        listings::fail(script_name, b": no save in it is begun\n");
-        return;
+// ---- the run
+// Whether a script has a save to be cut, where cuts are asked for; if not, prints that line.
+fn has_save(name: &[u8], text: &[u8], left: &[u8], right: &[u8], cuts: bool) -> bool {
+    if !cuts {
+        return true;
     }
-    views::heading(left_name, right_name, left.len());
-    cuts::run(text, last, left, right);
+    if cuts::has_save(text, left, right) {
+        return true;
+    }
+    listings::fail(name, b": no save in it is begun\n");
+    false
 }
 
-// Runs a script if its lines are right.
-fn run(
-    left_name: &[u8],
-    right_name: &[u8],
-    script_name: &[u8],
-    text: &[u8],
-    left: &mut [u8],
-    right: &mut [u8],
-    cuts: bool,
-) {
-    let Checked::Calls(calls) = listings::check(script_name, text) else {
-        return;
-    };
+fn run(text: &[u8], left: &mut [u8], right: &mut [u8], cuts: bool) {
     if cuts {
-        run_cuts(left_name, right_name, script_name, text, left, right);
+        cuts::run(text, left, right);
     } else {
-        views::heading(left_name, right_name, left.len());
-        timelines::run(text, left, right, calls);
+        timelines::run(text, left, right);
     }
 }
 
 // ---- the files
-// Loads a script, which has fewer bytes than the buffer.
+// Loads a script, which has fewer bytes than the buffer, and whose lines are right.
 fn load_script(name: &[u8], text: &mut [u8]) -> Input {
     let Input::Bytes(size) = loads::load_file(name, text) else {
         return Input::Wrong;
     };
-    if size < text.len() {
+    if text.len() <= size {
+        listings::fail(name, b": more than 65535 bytes\n");
+        return Input::Wrong;
+    }
+    if listings::check(name, loads::first(text, size)) {
         return Input::Bytes(size);
     }
-    listings::fail(name, b": more than 65535 bytes\n");
     Input::Wrong
 }
 
@@ -72,7 +56,10 @@ fn run_pages(
         return;
     };
     let text = loads::first(&space, size);
-    run(left_name, right_name, script_name, text, left, right, cuts);
+    if has_save(script_name, text, left, right, cuts) {
+        views::heading(left_name, right_name, left.len());
+        run(text, left, right, cuts);
+    }
 }
 
 // Runs the script on the first bytes of two buffers.

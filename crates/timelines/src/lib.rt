@@ -5,98 +5,9 @@ use boards::Hand;
 use pages::PageOffset;
 use texts::Call;
 use walks::Begun;
-use walks::Progress;
-use walks::Stepped;
 use walks::Walk;
 
-// ---- the pages
-// Prints an image as far as it isn't the one before, of which none counts as another.
-fn show_image(image: &[u8], before: &[u8]) {
-    if check::same(image, before) {
-        prints::text(b"; a read shows the same\n");
-    } else {
-        prints::text(b"; a read shows\n");
-        views::image_change(image, before);
-    }
-}
-
-// Prints the pages and what a read shows, beside what it showed before.
-fn show<'a>(left: &'a [u8], right: &'a [u8], before: &[u8]) {
-    prints::text(b"  ");
-    views::words(left, right);
-    let now = boards::image(left, right);
-    if now.len() == 0 {
-        prints::text(b"; a read is answered 5\n");
-    } else {
-        show_image(now, before);
-    }
-}
-
-// ---- steps
-// Prints how a step at a walk's place is answered, and where it was made the pages after it.
-fn print_step<'a>(progress: Progress, walk: Walk, left: &'a [u8], right: &'a [u8], before: &[u8]) {
-    match progress {
-        Progress::Made => {
-            answers::step(walk, left, right);
-            show(left, right, before);
-        }
-        Progress::Ended => prints::text(b"  ended: no step is left\n"),
-        Progress::Unfit => answers::refused(6),
-    }
-}
-
-fn step_once(walk: Walk, left: &mut [u8], right: &mut [u8], data: &[u8]) -> Stepped {
-    let mut space = [0u8; 4096];
-    let old = boards::image(left, right);
-    let size = old.len();
-    boards::put(old, &mut space);
-    let stepped = walk.step(left, right, data);
-    let progress = stepped.progress;
-    print_step(progress, walk, left, right, loads::first(&space, size));
-    stepped
-}
-
-// Steps a walk a number of times, up to the first step that isn't made.
-fn steps(count: u32, walk: Walk, left: &mut [u8], right: &mut [u8], data: &[u8]) -> Walk {
-    let mut now = walk;
-    for _ in 0..count {
-        let stepped = step_once(now, left, right, data);
-        let progress = stepped.progress;
-        now = stepped.walk;
-        if !boards::is_made(progress) {
-            return now;
-        }
-    }
-    now
-}
-
-fn no_walk(count: u32) {
-    if 0 < count {
-        prints::text(b"  no walk is in hand: nothing happens\n");
-    }
-}
-
-// Steps the walk in hand with the bytes of hexadecimal digits.
-fn step_hand(count: u32, digits: &[u8], left: &mut [u8], right: &mut [u8], board: Board) -> Board {
-    let hand = board.hand;
-    match hand {
-        Hand::Empty => {
-            no_walk(count);
-            board
-        }
-        Hand::On(walk) => {
-            let mut data = [0u8; 4096];
-            let size = texts::decode(digits, &mut data);
-            let next = steps(count, walk, left, right, &data[0..size]);
-            Board {
-                hand: Hand::On(next),
-                at: board.at,
-            }
-        }
-    }
-}
-
-// ---- the other calls
+// ---- calls
 fn print_begun(begun: Begun) {
     match begun {
         Begun::On(walk) => {
@@ -131,7 +42,7 @@ fn print_cut<'a>(left: &'a [u8], right: &'a [u8], hand: Hand) {
         Hand::Empty => prints::text(b"  the power is cut: no walk was in hand\n"),
         Hand::On(walk) => answers::cut(walk),
     }
-    show(left, right, boards::image(left, right));
+    traces::show(left, right, boards::image(left, right));
 }
 
 // Prints the answer to a line's call, which changes no page.
@@ -156,7 +67,7 @@ fn make(text: &[u8], at: usize, left: &mut [u8], right: &mut [u8], board: Board)
     match call {
         Call::Step(count, with) => {
             let digits = boards::step_digits(text, line, with, board);
-            step_hand(count, digits, left, right, board)
+            traces::step_hand(count, digits, left, right, board)
         }
         _ => {
             let hand = board.hand;
@@ -166,25 +77,31 @@ fn make(text: &[u8], at: usize, left: &mut [u8], right: &mut [u8], board: Board)
     }
 }
 
-// Makes the calls of a script, and prints each with its answer.
-fn run_lines(text: &[u8], left: &mut [u8], right: &mut [u8]) {
+// Makes the calls of a script, prints each with its answer, and counts them.
+fn run_lines(text: &[u8], left: &mut [u8], right: &mut [u8]) -> u64 {
     let mut board = Board::new();
     let mut at: usize = 0;
     let mut number: u64 = 0;
+    let mut calls: u64 = 0;
     while at < text.len() {
         number += 1;
-        listings::print_line(number, texts::line_at(text, at));
+        calls += listings::print_line(number, texts::line_at(text, at));
         board = make(text, at, left, right, board);
         at = texts::next_line(text, at);
     }
+    calls
+}
+
+fn print_first<'a>(left: &'a [u8], right: &'a [u8]) {
+    prints::text(b"\nat first\n");
+    traces::show(left, right, b"");
 }
 
 // Makes the calls of a script whose lines are right, and prints the pages at first, each call with
-// its answer, and how many calls there are. The line of P has no end yet.
-pub fn run(text: &[u8], left: &mut [u8], right: &mut [u8], calls: u64) {
-    prints::text(b"\nat first\n");
-    show(left, right, b"");
-    run_lines(text, left, right);
+// its answer, and how many calls there are. It begins with the end of the line of P.
+pub fn run(text: &[u8], left: &mut [u8], right: &mut [u8]) {
+    print_first(left, right);
+    let calls = run_lines(text, left, right);
     prints::labelled(b"ok: replayed, calls: ", calls);
     prints::text(b"\n");
 }

@@ -1,17 +1,19 @@
--- `cuts::cut_each` is safe and ends. The loop's invariant: a verdict was counted for each turn. Assumes nothing.
-use Prim.Native.Nat.{_+_, _-_, _≤_}
-use mathlib.Core.Path.{_≡_}
+-- `cuts::cut_each` is safe and ends. Assumes nothing.
+use Prim.Native.Nat.{_-_, _≤_}
 use borrow.Author.Needs.{needs}
 use Rattle.cuts.proofs.cut_each.Statement.{statement}
 use Rattle.cuts.proofs.cut_each.Tie as tie
 
 abbrev Inv-loop : tie.InvT-loop
 Inv-loop walk «data» left right tally₀ count₀ count-end tally count =
-    (count ≤ count-end) × (tally .old + tally .new + tally .another ≡ count)
+    count ≤ count-end
 
 abbrev μ-loop : tie.MeasureT-loop
 μ-loop walk «data» left right tally₀ count₀ count-end tally count =
     count-end - count
+
+new-requires : tie.Need-new-requires Inv-loop μ-loop
+new-requires c κs = search needs
 
 total-requires : tie.Need-total-requires Inv-loop μ-loop
 total-requires c κs = search needs
@@ -46,6 +48,7 @@ cut-each-spec =
     (tie.spec
     Inv-loop
     μ-loop
+    new-requires
     total-requires
     loop-holds
     cut-after-requires

@@ -1,18 +1,24 @@
--- `texts::word` is safe and ends. The loop's invariant: the words passed lie within the line. Assumes nothing.
+-- `texts::word` meets its contract. The loop's invariant: the word from here on is the word of all. Assumes nothing.
 use Prim.Native.Nat.{_-_, _≤_}
-use lib.ListN.{length}
+use mathlib.Core.Path.{_≡_}
+use native.Mathlib.Omega.{arith}
+use lib.ListN.{length, drop}
 use borrow.Author.Needs.{needs}
+use Rattle.texts.specs.Texts.{wordAt}
+use Rattle.texts.proofs.Laws.{word-first, word-on, word-end}
 use Rattle.texts.proofs.word.Statement.{statement}
 use Rattle.texts.proofs.word.Tie as tie
 
 abbrev Inv-loop : tie.InvT-loop
-Inv-loop line number start₀ counter₀ start counter = (counter ≤ number) × (start ≤ length line)
+Inv-loop line number start₀ counter₀ start counter =
+    (counter ≤ number)
+    × ((start ≤ length line) × (wordAt (number - counter) (drop start line) ≡ wordAt number line))
 
 abbrev μ-loop : tie.MeasureT-loop
 μ-loop line number start₀ counter₀ start counter = number - counter
 
 loop-holds : tie.Need-loop-holds Inv-loop μ-loop
-loop-holds c = search needs
+loop-holds c = (omega arith, (omega arith, word-first (c .before .args .line .now) (c .before .args .number)))
 
 sub-stride : tie.Need-sub-stride Inv-loop μ-loop
 sub-stride c = search needs
@@ -36,7 +42,19 @@ loop-less : tie.Need-loop-less Inv-loop μ-loop
 loop-less c = search needs
 
 loop-again : tie.Need-loop-again Inv-loop μ-loop
-loop-again c = search needs
+loop-again c =
+    let c2 = c .before .before in
+    let c3 = c2 .before in
+    let c5 = c3 .before .before in
+    let s = c5 .args .line .now in
+    let at = c3 .loop in (
+      omega arith,
+      (
+        search needs,
+        word-on s (wordAt (c5 .args .number) s) (at .start) (c .stride .result) (at .counter)
+            (c5 .args .number) (c2 .loop-test .taken) (c .stride .ensures .0) (at .inv .1 .1),
+      ),
+    )
 
 sub-rest : tie.Need-sub-rest Inv-loop μ-loop
 sub-rest c = search needs
@@ -60,7 +78,14 @@ part-result-end : tie.Need-part-result-end Inv-loop μ-loop
 part-result-end c = search needs
 
 returns : tie.Need-returns Inv-loop μ-loop
-returns c = search needs
+returns c =
+    let c3 = c .before .before .before in
+    let c4 = c3 .before in
+    let c6 = c4 .before .before in
+    let s = c6 .args .line .now in
+    let at = c4 .loop in
+    word-end s (wordAt (c6 .args .number) s) (at .start) (c .before .run .result) (at .counter)
+    (c6 .args .number) (c3 .loop-test .left) (c .before .run .ensures .0) (at .inv .1 .1)
 
 pub word-spec : {M : Type 1} → statement M
 word-spec =

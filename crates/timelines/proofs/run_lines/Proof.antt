@@ -1,5 +1,5 @@
--- `timelines::run_lines` is safe and ends. The loop's invariant: a line takes at least a byte of the text, and the pages keep
--- their lengths. Assumes nothing.
+-- `timelines::run_lines` is safe and ends. The loop's invariant: a line takes at least a byte of the text and has at
+-- most one call, and the pages keep their lengths. Assumes nothing.
 use Prim.Native.Nat.{_-_, _≤_}
 use mathlib.Core.Path.{_≡_}
 use lib.ListN.{length}
@@ -8,12 +8,13 @@ use Rattle.timelines.proofs.run_lines.Statement.{statement}
 use Rattle.timelines.proofs.run_lines.Tie as tie
 
 abbrev Inv-loop : tie.InvT-loop
-Inv-loop text left₀ right₀ board₀ at₀ number₀ left right board at number =
+Inv-loop text left₀ right₀ board₀ at₀ number₀ calls₀ left right board at number calls =
     (at ≤ length text)
-    × ((number ≤ at) × ((length left ≡ length left₀) × (length right ≡ length right₀)))
+    × ((number ≤ at)
+    × ((calls ≤ number) × ((length left ≡ length left₀) × (length right ≡ length right₀))))
 
 abbrev μ-loop : tie.MeasureT-loop
-μ-loop text left₀ right₀ board₀ at₀ number₀ left right board at number =
+μ-loop text left₀ right₀ board₀ at₀ number₀ calls₀ left right board at number calls =
     length text - at
 
 new-requires : tie.Need-new-requires Inv-loop μ-loop
@@ -30,6 +31,9 @@ line-at-requires c κs = search needs
 
 print-line-requires : tie.Need-print-line-requires Inv-loop μ-loop
 print-line-requires c κs = search needs
+
+add-calls : tie.Need-add-calls Inv-loop μ-loop
+add-calls c = search needs
 
 make-requires : tie.Need-make-requires Inv-loop μ-loop
 make-requires c κs = search needs
@@ -63,6 +67,7 @@ run-lines-spec =
     add-number
     line-at-requires
     print-line-requires
+    add-calls
     make-requires
     next-line-requires
     loop-less

@@ -1,10 +1,10 @@
--- `timelines::steps` is safe and ends. The loop's invariant: the pages keep their lengths. Assumes nothing.
+-- `traces::steps` is safe and ends. The loop's invariant: the pages keep their lengths. Assumes nothing.
 use Prim.Native.Nat.{_-_, _≤_}
 use mathlib.Core.Path.{_≡_}
 use lib.ListN.{length}
 use borrow.Author.Needs.{needs}
-use Rattle.timelines.proofs.steps.Statement.{statement}
-use Rattle.timelines.proofs.steps.Tie as tie
+use Rattle.traces.proofs.steps.Statement.{statement}
+use Rattle.traces.proofs.steps.Tie as tie
 
 abbrev Inv-loop : tie.InvT-loop
 Inv-loop count left₀ right₀ «data» now₀ counter₀ left right now counter =

@@ -1,9 +1,9 @@
--- `cuts::is_new` is safe and ends. Assumes nothing.
+-- `verdicts::is_new` is safe and ends. Assumes nothing.
 use Prim.Native.Nat.{_-_, _≤_}
 use lib.ListN.{length}
 use borrow.Author.Needs.{needs}
-use Rattle.cuts.proofs.is_new.Statement.{statement}
-use Rattle.cuts.proofs.is_new.Tie as tie
+use Rattle.verdicts.proofs.is_new.Statement.{statement}
+use Rattle.verdicts.proofs.is_new.Tie as tie
 
 abbrev Inv-loop : tie.InvT-loop
 Inv-loop now old start «data» i₀ i-end i =

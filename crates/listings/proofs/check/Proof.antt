@@ -1,17 +1,17 @@
--- `listings::count_calls` is safe and ends. The loop's invariant: a line takes at least a byte of the text. Assumes nothing.
+-- `listings::check` is safe and ends. The loop's invariant: a line takes at least a byte of the text. Assumes nothing.
 use Prim.Native.Nat.{_-_, _≤_}
-use mathlib.Core.Logic.{⊎-elim}
-use native.Mathlib.Omega.{arith}
 use lib.ListN.{length}
 use borrow.Author.Needs.{needs}
-use Rattle.listings.proofs.count_calls.Statement.{statement}
-use Rattle.listings.proofs.count_calls.Tie as tie
+use Rattle.listings.proofs.check.Statement.{statement}
+use Rattle.listings.proofs.check.Tie as tie
 
 abbrev Inv-loop : tie.InvT-loop
-Inv-loop name text at₀ number₀ calls₀ at number calls = (at ≤ length text) × ((number ≤ at) × (calls ≤ number))
+Inv-loop name text at₀ number₀ calls₀ at number calls =
+    (at ≤ length text) × (number ≤ at)
 
 abbrev μ-loop : tie.MeasureT-loop
-μ-loop name text at₀ number₀ calls₀ at number calls = length text - at
+μ-loop name text at₀ number₀ calls₀ at number calls =
+    length text - at
 
 loop-holds : tie.Need-loop-holds Inv-loop μ-loop
 loop-holds c = search needs
@@ -28,9 +28,6 @@ is-right-requires c κs = search needs
 returns : tie.Need-returns Inv-loop μ-loop
 returns c = search needs
 
-add-calls : tie.Need-add-calls Inv-loop μ-loop
-add-calls c = search needs
-
 next-line-requires : tie.Need-next-line-requires Inv-loop μ-loop
 next-line-requires c κs = search needs
 
@@ -38,13 +35,19 @@ loop-less : tie.Need-loop-less Inv-loop μ-loop
 loop-less c = search needs
 
 loop-again : tie.Need-loop-again Inv-loop μ-loop
-loop-again c = ⊎-elim (λ w. omega arith) (λ w. omega arith) (c .before .if2 .came)
+loop-again c = search needs
+
+fail-empty-requires : tie.Need-fail-empty-requires Inv-loop μ-loop
+fail-empty-requires c κs = search needs
 
 returns-2 : tie.Need-returns-2 Inv-loop μ-loop
 returns-2 c = search needs
 
-pub count-calls-spec : {M : Type 1} → statement M
-count-calls-spec =
+returns-3 : tie.Need-returns-3 Inv-loop μ-loop
+returns-3 c = search needs
+
+pub check-spec : {M : Type 1} → statement M
+check-spec =
     tie.close
     (tie.spec
     Inv-loop
@@ -54,8 +57,9 @@ count-calls-spec =
     line-at-requires
     is-right-requires
     returns
-    add-calls
     next-line-requires
     loop-less
     loop-again
-    returns-2)
+    fail-empty-requires
+    returns-2
+    returns-3)

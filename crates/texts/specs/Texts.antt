@@ -1,0 +1,250 @@
+-- A script as text (docs/FORMATS.md, "replay"): texts, lines and words are lists of bytes.
+-- In order: lines; words; digits and numbers; the call of a line.
+-- Not here: making the calls (the crates boards and replay). Laws: proofs/Laws.antt.
+-- Assumes nothing.
+use Prim.Native.Nat.{ℕ, zero, suc, _+_, _-_, _*_, _%_}
+use mathlib.Core.Bool.{Bool, true, false, cond, not, _&&_, _||_}
+use mathlib.Core.List.{List, [], _∷_, _++_}
+use lib.Dec.{eqb, ltb, leb}
+use lib.ListN.{length, getD, take, drop}
+use Rattle.texts.specs.declared.Fault.the-variants.{
+  UnknownWord,
+  NoNumber,
+  NotNumber,
+  PastBits,
+  OddDigits,
+  NotHex,
+  TooLong,
+  ExtraWord,
+}
+use Rattle.texts.specs.declared.Number.{Number}
+use Rattle.texts.specs.declared.Number as N
+use Rattle.texts.specs.declared.Call.{Call}
+use Rattle.texts.specs.declared.Call as C
+
+-- ---- lines
+-- how many bytes stand before the first that passes a test, or in all where none does
+unfoldable pub beforeFirst : (ℕ → Bool) → List ℕ → ℕ
+beforeFirst test [] = 0
+beforeFirst test (x ∷ xs) = cond (test x) 0 (suc (beforeFirst test xs))
+
+-- the bytes before that one, and those from it on
+abbrev pub upTo : (ℕ → Bool) → List ℕ → List ℕ
+upTo test s = take (beforeFirst test s) s
+
+abbrev pub onFrom : (ℕ → Bool) → List ℕ → List ℕ
+onFrom test s = drop (beforeFirst test s) s
+
+abbrev pub is : ℕ → ℕ → Bool
+is byte b = eqb b byte
+
+-- "blanks or tabs"
+unfoldable pub isBlank : ℕ → Bool
+isBlank b = eqb b 32 || eqb b 9
+
+-- the test of a byte that ends a run of blanks and tabs, or of bytes that are none
+unfoldable pub ending : Bool → ℕ → Bool
+ending true b = not (isBlank b)
+ending false b = isBlank b
+
+-- how long a line is up to its last byte that is no blank and no tab
+abbrev pub reach : ℕ → ℕ → ℕ
+reach x zero = cond (isBlank x) 0 1
+reach x (suc n) = suc (suc n)
+
+unfoldable pub used : List ℕ → ℕ
+used [] = 0
+used (x ∷ xs) = reach x (used xs)
+
+abbrev pub trimmed : List ℕ → List ℕ
+trimmed s = take (used s) s
+
+-- "a carriage return before a line's end is dropped"
+unfoldable pub withoutReturn : List ℕ → List ℕ
+withoutReturn s =
+    let last = length s - 1 in
+    cond (eqb (getD s last 0) 13) (take last s) s
+
+-- "`#` and what follows it on its line is a comment"
+unfoldable pub withoutComment : List ℕ → List ℕ
+withoutComment s =
+    cond (ltb (beforeFirst (is 35) s) (length s)) (upTo (is 35) s) (withoutReturn s)
+
+-- the line that begins at a place, from its first word to its last
+unfoldable pub lineAt : List ℕ → ℕ → List ℕ
+lineAt text place = onFrom (ending true) (trimmed (withoutComment (upTo (is 10) (drop place text))))
+
+-- where the line after that one begins: after its end, or where the text ends
+unfoldable pub nextLine : List ℕ → ℕ → ℕ
+nextLine text place =
+    let end = place + beforeFirst (is 10) (drop place text) in
+    cond (ltb end (length text)) (end + 1) (length text)
+
+-- ---- words
+-- how long the first word of a line is with the blanks after it
+unfoldable pub strideOf : List ℕ → ℕ
+strideOf s = let end = beforeFirst (ending false) s in end + beforeFirst (ending true) (drop end s)
+
+-- the word of a number, from 0, of a line that begins with its first
+unfoldable pub wordAt : ℕ → List ℕ → List ℕ
+wordAt zero s = upTo (ending false) s
+wordAt (suc n) s = wordAt n (drop (strideOf s) s)
+
+-- ---- digits and numbers
+abbrev pub within : ℕ → ℕ → ℕ → Bool
+within low high b = leb low b && leb b high
+
+-- the number of a hexadecimal digit, capital or small; 16 of any other byte
+unfoldable pub digitOf : ℕ → ℕ
+digitOf b =
+    cond (within 48 57 b) (b - 48)
+    (cond (within 65 70 b) (b - 65 + 10)
+    (cond (within 97 102 b) (b - 97 + 10)
+    16))
+
+-- a decimal number of which so much is read: "at most 4294967295"
+unfoldable pub numberFrom : ℕ → List ℕ → Number
+numberFrom value [] =
+    cond (ltb value 4294967296) (N.the-variants.Value value) (N.the-variants.Wrong PastBits)
+numberFrom value (x ∷ xs) =
+    cond (ltb 9 (digitOf x))
+    (N.the-variants.Wrong NotNumber)
+    (numberFrom (value * 10 + digitOf x) xs)
+
+unfoldable pub numberOf : List ℕ → Number
+numberOf [] = N.the-variants.Wrong NoNumber
+numberOf (x ∷ xs) = numberFrom 0 (x ∷ xs)
+
+unfoldable pub allHex : List ℕ → Bool
+allHex [] = true
+allHex (x ∷ xs) = ltb (digitOf x) 16 && allHex xs
+
+-- "two hexadecimal digits a byte"; a last digit alone is none
+abbrev pub joinedOf : ℕ → ℕ → ℕ
+joinedOf high low = high % 16 * 16 + low % 16
+
+unfoldable pub bytesOf : List ℕ → List ℕ
+bytesOf [] = []
+bytesOf (high ∷ []) = []
+bytesOf (high ∷ (low ∷ s)) = joinedOf (digitOf high) (digitOf low) ∷ bytesOf s
+
+-- how many bytes are put at the start of a buffer, and the buffer: as it was where they don't fit
+pub record Decoded : Type 0 where
+  pub count : ℕ
+  pub buffer : List ℕ
+
+unfoldable pub decoded : List ℕ → List ℕ → Decoded
+decoded digits buffer =
+    let bytes = bytesOf digits in
+    cond (leb (length bytes) (length buffer))
+    (record { count = length bytes; buffer = bytes ++ drop (length bytes) buffer })
+    (record { count = 0; buffer = buffer })
+
+-- ---- the call of a line
+abbrev pub isEmpty : List ℕ → Bool
+isEmpty s = eqb (length s) 0
+
+unfoldable pub same : List ℕ → List ℕ → Bool
+same [] [] = true
+same [] (y ∷ ys) = false
+same (x ∷ xs) [] = false
+same (x ∷ xs) (y ∷ ys) = eqb x y && same xs ys
+
+-- the words that a line may have, as they are spelled
+abbrev pub saveWord : List ℕ
+saveWord = 115 ∷ (97 ∷ (118 ∷ (101 ∷ [])))
+
+abbrev pub formatWord : List ℕ
+formatWord = 102 ∷ (111 ∷ (114 ∷ (109 ∷ (97 ∷ (116 ∷ [])))))
+
+abbrev pub stepWord : List ℕ
+stepWord = 115 ∷ (116 ∷ (101 ∷ (112 ∷ [])))
+
+abbrev pub readWord : List ℕ
+readWord = 114 ∷ (101 ∷ (97 ∷ (100 ∷ [])))
+
+abbrev pub copyWord : List ℕ
+copyWord = 99 ∷ (111 ∷ (112 ∷ (121 ∷ [])))
+
+abbrev pub cutWord : List ℕ
+cutWord = 99 ∷ (117 ∷ (116 ∷ []))
+
+abbrev pub withWord : List ℕ
+withWord = 119 ∷ (105 ∷ (116 ∷ (104 ∷ [])))
+
+abbrev pub allWord : List ℕ
+allWord = 97 ∷ (108 ∷ (108 ∷ []))
+
+-- a call of a line that has no word of a number, which would be one too many
+unfoldable pub endedBy : ℕ → List ℕ → Call → Call
+endedBy n line call = cond (isEmpty (wordAt n line)) call (C.the-variants.Wrong ExtraWord n)
+
+-- a call with bytes, "two hexadecimal digits a byte, at most 4,096": word 2 has them, the last
+unfoldable pub withDigits : List ℕ → List ℕ → Call → Call
+withDigits digits line call =
+    cond (allHex digits)
+    (cond (eqb (length digits % 2) 0)
+    (cond (leb (length digits) 8192)
+    (endedBy 3 line call)
+    (C.the-variants.Wrong TooLong 2))
+    (C.the-variants.Wrong OddDigits 2))
+    (C.the-variants.Wrong NotHex 2)
+
+unfoldable pub withBytes : List ℕ → Call → Call
+withBytes line call = withDigits (wordAt 2 line) line call
+
+-- what a line asks for by the number that is a word of it, or the fault of that word
+abbrev pub byNumber : Number → ℕ → (ℕ → Call) → Call
+byNumber (N.the-variants.Value value) n call = call value
+byNumber (N.the-variants.Wrong fault) n call = C.the-variants.Wrong fault n
+
+abbrev pub withNumber : ℕ → List ℕ → (ℕ → Call) → Call
+withNumber n line call = byNumber (numberOf (wordAt n line)) n call
+
+-- `save OFFSET HEX`
+unfoldable pub saveOf : List ℕ → Call
+saveOf line = withNumber 1 line (λ offset. withBytes line (C.the-variants.Save offset))
+
+-- `step`, `step with HEX`, `step all` and `step N`, by word 1
+unfoldable pub stepsOf : List ℕ → List ℕ → Call
+stepsOf count line =
+    cond (isEmpty count) (C.the-variants.Step 1 false)
+    (cond (same count withWord) (withBytes line (C.the-variants.Step 1 true))
+    (cond (same count allWord) (endedBy 2 line (C.the-variants.Step 4294967295 false))
+    (byNumber (numberOf count) 1 (λ steps. endedBy 2 line (C.the-variants.Step steps false)))))
+
+unfoldable pub stepOf : List ℕ → Call
+stepOf line = stepsOf (wordAt 1 line) line
+
+-- `read OFFSET LENGTH` and `copy OFFSET LENGTH`, with the most that LENGTH may be
+abbrev pub partCall : Bool → ℕ → ℕ → Call
+partCall false offset size = C.the-variants.Read offset size
+partCall true offset size = C.the-variants.Copy offset size
+
+unfoldable pub partOf : Bool → ℕ → List ℕ → Call
+partOf copy most line =
+    withNumber 1 line (λ offset.
+    withNumber 2 line (λ size.
+    cond (leb size most)
+    (endedBy 3 line (partCall copy offset size))
+    (C.the-variants.Wrong TooLong 2)))
+
+-- the call of a line by its name, word 0
+unfoldable pub otherOf : List ℕ → List ℕ → Call
+otherOf name line =
+    cond (same name readWord) (partOf false 4294967295 line)
+    (cond (same name copyWord) (partOf true 4096 line)
+    (cond (same name cutWord) (endedBy 1 line C.the-variants.Cut)
+    (C.the-variants.Wrong UnknownWord 0)))
+
+unfoldable pub namedOf : List ℕ → List ℕ → Call
+namedOf name line =
+    cond (isEmpty name) C.the-variants.Nothing
+    (cond (same name saveWord) (saveOf line)
+    (cond (same name formatWord) (endedBy 1 line C.the-variants.Format)
+    (cond (same name stepWord) (stepOf line)
+    (otherOf name line))))
+
+-- the call of a line that begins with its first word, or the first fault from the left
+unfoldable pub callOf : List ℕ → Call
+callOf line = namedOf (wordAt 0 line) line

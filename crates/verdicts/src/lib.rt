@@ -1,0 +1,142 @@
+// What a read shows after a save was cut: the image before the save, or the new one, or another.
+// The lines are in docs/FORMATS.md.
+use pages::InImage;
+use pages::PageOffset;
+
+// What a read shows after a cut: no image, as before the save; the image before it, which may be
+// the new one too; the new one; or another.
+pub enum Verdict {
+    NoImage,
+    Old,
+    Both,
+    New,
+    Another,
+}
+
+// How often a read showed what.
+pub struct Tally {
+    pub old: u64,
+    pub new: u64,
+    pub another: u64,
+}
+
+// ---- what a read shows
+// A byte of an image, FF where there is none.
+fn old_byte(image: &[u8], at: usize) -> u8 {
+    if at < image.len() { image[at] } else { 255 }
+}
+
+// A byte of an image into which data is laid from a place on.
+fn new_byte(image: &[u8], start: usize, data: &[u8], at: usize) -> u8 {
+    if at < start {
+        return old_byte(image, at);
+    }
+    let inside = at - start;
+    if inside < data.len() {
+        return data[inside];
+    }
+    old_byte(image, at)
+}
+
+fn is_new(now: &[u8], old: &[u8], start: usize, data: &[u8]) -> bool {
+    for i in 0..now.len() {
+        if now[i] != new_byte(old, start, data, i) {
+            return false;
+        }
+    }
+    true
+}
+
+// Whether an image is the one before the save with the data laid in at a page offset. No save is
+// begun in the management bytes.
+fn is_saved(now: &[u8], old: &[u8], offset: PageOffset, data: &[u8]) -> bool {
+    match offset.to_image() {
+        InImage::Management => false,
+        InImage::At(inside) => is_new(now, old, inside.0 as usize, data),
+    }
+}
+
+fn judge_image(now: &[u8], old: &[u8], new: bool) -> Verdict {
+    if check::same(now, old) {
+        if new {
+            return Verdict::Both;
+        }
+        return Verdict::Old;
+    }
+    if new {
+        return Verdict::New;
+    }
+    Verdict::Another
+}
+
+// What an image that a read shows is beside the one before a save of the data at a page offset. No
+// bytes stand for no image.
+pub fn judge(now: &[u8], old: &[u8], offset: PageOffset, data: &[u8]) -> Verdict {
+    if 0 < now.len() {
+        return judge_image(now, old, is_saved(now, old, offset, data));
+    }
+    if 0 < old.len() {
+        return Verdict::Another;
+    }
+    Verdict::NoImage
+}
+
+fn one_more(n: u64) -> u64 {
+    std::num::wrapping_add_u64(n, 1)
+}
+
+impl Tally {
+    pub fn new() -> Tally {
+        Tally {
+            old: 0,
+            new: 0,
+            another: 0,
+        }
+    }
+
+    // With one verdict more. No save has so many steps that a count wraps.
+    pub fn with(self, verdict: Verdict) -> Tally {
+        let mut next = self;
+        match verdict {
+            Verdict::New => {
+                next.new = one_more(self.new);
+            }
+            Verdict::Another => {
+                next.another = one_more(self.another);
+            }
+            _ => {
+                next.old = one_more(self.old);
+            }
+        }
+        next
+    }
+}
+
+// ---- what is printed
+// Prints what a read does, after `a read `.
+pub fn print_verdict(verdict: Verdict) {
+    match verdict {
+        Verdict::NoImage => prints::text(b"is answered 5, as before the save\n"),
+        Verdict::Old => prints::text(b"shows the old image\n"),
+        Verdict::Both => prints::text(b"shows the old image, which is the new one too\n"),
+        Verdict::New => prints::text(b"shows the new image\n"),
+        Verdict::Another => prints::text(b"shows ANOTHER IMAGE\n"),
+    }
+}
+
+fn print_counts(tally: Tally) {
+    prints::labelled(b" cuts, old image: ", tally.old);
+    prints::labelled(b", new image: ", tally.new);
+    prints::labelled(b", another: ", tally.another);
+    prints::text(b"\n");
+}
+
+// Prints the last line, for a number of cuts.
+pub fn print_tally(cuts: u64, tally: Tally) {
+    if tally.another == 0 {
+        prints::labelled(b"ok: ", cuts);
+    } else {
+        prints::labelled(b"failed: ", cuts);
+    }
+    print_counts(tally);
+}

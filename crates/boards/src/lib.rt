@@ -103,8 +103,8 @@ pub fn steps(count: u32, walk: Walk, left: &mut [u8], right: &mut [u8], data: &[
     now
 }
 
-// The digits of what the walk in hand is stepped with by a line: its own, unless the line is to
-// give other ones and doesn't give as many.
+// The digits of what the walk in hand is stepped with by a line: its own, unless the line gives
+// digits, and not as many.
 pub fn step_digits<'a>(text: &'a [u8], line: &'a [u8], with: bool, board: Board) -> &'a [u8] {
     let held = texts::word(texts::line_at(text, board.at), 2);
     if !with {

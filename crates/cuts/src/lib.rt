@@ -53,7 +53,7 @@ fn find_last(text: &[u8], left: &mut [u8], right: &mut [u8]) -> Last {
     last
 }
 
-// Finds the last save of a script on copies of the pages.
+// Finds the last save of a script. It is made on copies of the pages.
 fn last_save(text: &[u8], left: &[u8], right: &[u8]) -> Last {
     let page = left.len();
     if pages::MAX_PAGE < page {
@@ -106,8 +106,7 @@ fn judge_cut<'a>(
     verdict
 }
 
-// Makes a number of a walk's steps, after which the walk is lost, and prints what a read then
-// shows.
+// Makes a number of a walk's steps, after which the walk is lost, and prints what a read shows.
 fn cut_on(
     count: u32,
     walk: Walk,
@@ -168,8 +167,8 @@ fn cut_line(text: &[u8], at: usize, left: &mut [u8], right: &mut [u8]) {
     }
 }
 
-// Makes a script up to its last save, and prints that and its cuts. It begins with the end of the
-// line of P.
+// Makes a script that has a save up to the last, and prints that and its cuts. It begins with the
+// end of the line of P.
 pub fn run(text: &[u8], left: &mut [u8], right: &mut [u8]) {
     let last = last_save(text, left, right);
     let at = last.at;

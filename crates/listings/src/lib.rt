@@ -4,7 +4,7 @@ use texts::Call;
 use texts::Fault;
 ghost use Prim.Native.Nat.{_≤_};
 
-// Prints what stands before the word that has a fault, and after it.
+// Prints what stands before the word that has a fault, or after it.
 fn before_word(fault: Fault) {
     match fault {
         Fault::UnknownWord => prints::text(b"unknown word '"),
@@ -61,8 +61,8 @@ fn fail_empty(name: &[u8]) {
     fail(name, b": no call in it\n");
 }
 
-// Whether each line of a script is right and one has a call; where it isn't so, prints what is
-// wrong.
+// Whether each line of a script is right and one of them has a call; where it isn't so, prints the
+// line that says what is wrong first.
 pub fn check(name: &[u8], text: &[u8]) -> bool {
     let mut at: usize = 0;
     let mut number: u64 = 0;

@@ -6,8 +6,8 @@ use loads::Name;
 ghost use Prim.Native.Nat.{_≤_};
 
 // ---- the run
-// Whether a script has a save to be cut, where cuts are asked for; if not, prints that line.
-fn has_save(name: &[u8], text: &[u8], left: &[u8], right: &[u8], cuts: bool) -> bool {
+// Whether a script has a save where cuts are asked for; if not, prints the line that says so.
+fn may_run(name: &[u8], text: &[u8], left: &[u8], right: &[u8], cuts: bool) -> bool {
     if !cuts {
         return true;
     }
@@ -56,13 +56,13 @@ fn run_pages(
         return;
     };
     let text = loads::first(&space, size);
-    if has_save(script_name, text, left, right, cuts) {
+    if may_run(script_name, text, left, right, cuts) {
         views::heading(left_name, right_name, left.len());
         run(text, left, right, cuts);
     }
 }
 
-// Runs the script on the first bytes of two buffers.
+// Runs the script on the first P bytes of two buffers.
 fn trim_pages(
     left_name: &[u8],
     right_name: &[u8],

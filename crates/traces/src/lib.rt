@@ -65,13 +65,15 @@ fn steps(count: u32, walk: Walk, left: &mut [u8], right: &mut [u8], data: &[u8])
     now
 }
 
+// Prints the answer to steps where there is no walk; no step has none.
 fn no_walk(count: u32) {
     if 0 < count {
         prints::text(b"  no walk is in hand: nothing happens\n");
     }
 }
 
-// Steps the walk in hand with the bytes of hexadecimal digits.
+// Steps the walk in hand a number of times with the bytes of hexadecimal digits, up to the first
+// step that isn't made.
 pub fn step_hand(
     count: u32,
     digits: &[u8],

@@ -1,5 +1,5 @@
-// What a read shows after a save was cut: the image before the save, or the new one, or another.
-// The lines are in docs/FORMATS.md.
+// What a read shows after a save was cut: the image before the save, the new one, or another. The
+// lines are in docs/FORMATS.md.
 use pages::InImage;
 use pages::PageOffset;
 
@@ -15,9 +15,9 @@ pub enum Verdict {
 
 // How often a read showed what.
 pub struct Tally {
-    pub old: u64,
-    pub new: u64,
-    pub another: u64,
+    old: u64,
+    new: u64,
+    another: u64,
 }
 
 // ---- what a read shows

@@ -1,5 +1,5 @@
--- `cuts::find_last` is safe and ends. The loop's invariant: a line takes at least a byte of the text, and the pages keep
--- their lengths. Assumes nothing.
+-- `cuts::find_last` is safe and ends. The loop's invariant: a line takes at least a byte of the text, and
+-- the pages keep their lengths. Assumes nothing.
 use Prim.Native.Nat.{_-_, _≤_}
 use mathlib.Core.Path.{_≡_}
 use lib.ListN.{length}

@@ -9,7 +9,7 @@ ghost use mathlib.Core.Path.{_≡_};
 ghost use lib.ListN.{take};
 
 // How many bytes of a file were read, or the number of the error.
-pub enum Loaded {
+enum Loaded {
     Read(usize),
     Failed(i32),
 }
@@ -69,7 +69,7 @@ fn fill(fd: i32, into: &mut [u8]) -> Loaded {
 }
 
 // Reads the file of a name into a buffer, up to the buffer's length.
-pub fn load(name: &[u8], into: &mut [u8]) -> Loaded {
+fn load(name: &[u8], into: &mut [u8]) -> Loaded {
     let fd = os::open_read(name);
     if fd < 0 {
         return Loaded::Failed(os::errno());
@@ -97,7 +97,7 @@ fn say_error(error: i32) {
 }
 
 // Prints the line of a file that isn't read.
-pub fn say_failed(name: &[u8], error: i32) {
+fn say_failed(name: &[u8], error: i32) {
     prints::text(b"failed: ");
     prints::text(name);
     prints::text(b": ");
@@ -142,7 +142,7 @@ fn say_pages(left_name: &[u8], left_len: usize, right_name: &[u8], right_len: us
 
 // Whether the lengths of two pages are legal; where they aren't, prints the line of number 1. A
 // length above 4096 counts as one that isn't known.
-pub fn pages_right(left_name: &[u8], left_len: usize, right_name: &[u8], right_len: usize) -> bool {
+fn pages_right(left_name: &[u8], left_len: usize, right_name: &[u8], right_len: usize) -> bool {
     match requests::check_pages(left_len, right_len) {
         Check::Legal => true,
         Check::Refused(_) => {

@@ -205,6 +205,17 @@ unfolding isErased
 fold-step l i all h ha hb e =
     e ∙ rw (drop-cons l i 0 h, add-one, full-and all (getD l i 0) ha hb, and-assoc)
 
+-- of no bytes, yes; of others, not if the first isn't FF
+pub none-erased : (l : List ℕ) → length l ≡ 0 → true ≡ isErased l
+unfolding isErased
+none-erased [] h = refl
+none-erased (x ∷ xs) h = absurd (omega (arith, h))
+
+pub first-used : (l : List ℕ) → (length l ≡ 0 → ⊥) → (getD l 0 0 ≡ 255 → ⊥) → false ≡ isErased l
+unfolding isErased
+first-used [] e h = absurd (e refl)
+first-used (x ∷ xs) e h = sym (simp (ne-eqb x 255 h))
+
 pub folded : (l : List ℕ) (i all : ℕ) → length l ≤ i → isErased l ≡ (eqb all 255 && isErased (drop i l))
     → eqb all 255 ≡ isErased l
 unfolding isErased

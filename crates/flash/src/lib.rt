@@ -84,11 +84,17 @@ pub fn erase(page: &mut [u8])
     }
 }
 
-// Whether every byte is FF; of no bytes, yes.
+// Whether every byte is FF; of no bytes, yes. A page in use shows by its first byte.
 pub fn erased(page: &[u8]) -> bool
     ensures { λ r. ⌜ r ≡ isErased (now (page .entry)) ⌝ }
 {
     let n = page.len();
+    if n == 0 {
+        return true;
+    }
+    if page[0] != 255 {
+        return false;
+    }
     let mut all: u8 = 255;
     let mut i: usize = 0;
     while i < n {

@@ -1,14 +1,14 @@
 -- Laws of laying bytes in.
--- In order: the length; a byte before, inside and after the data; the data read back; laid in twice; two that don't
--- overlap; one right after another.
+-- In order: the length; nothing laid in; a byte before, inside and after the data; the data read back; laid in twice;
+-- two that don't overlap; one right after another.
 -- Assumes nothing.
 use Prim.Native.Nat.{ℕ, _+_, _-_, _<_, _≤_}
 use mathlib.Core.Path.{_≡_, refl, sym, ap, _∙_}
 use mathlib.Core.Bool.{Bool, true, false}
-use mathlib.Core.List.{List, _++_, append-assoc}
+use mathlib.Core.List.{List, [], _++_, append-assoc}
 use mathlib.Core.Logic.{_⊎_, inl, inr, ⊎-elim}
 use native.Mathlib.Omega.{arith}
-use lib.ListN.{length, getD, take, drop, length-append, length-drop, List·getD-append}
+use lib.ListN.{length, getD, take, drop, take-append-drop, length-append, length-drop, List·getD-append}
 use lib.Seq.{
   length-take-le,
   getD-take,
@@ -32,6 +32,13 @@ length-overlaid image o d h =
     let a : length (take o image) ≡ o = length-take-le o image (omega arith) in
     let b : length (drop (o + length d) image) ≡ length image - (o + length d) = length-drop (o + length d) image in
     simp (length-append, a, b) (omega arith)
+
+-- data of length 0 "changes no image byte"
+pub overlaid-nothing : (image : List ℕ) (o : ℕ) → overlaid image o [] ≡ image
+unfolding overlaid
+overlaid-nothing image o =
+    let e : o + 0 ≡ o = omega arith in
+    ap (λ (k : ℕ). take o image ++ drop k image) e ∙ take-append-drop o image
 
 -- a place in the second of two lists
 pub getD-later : {A : Type 0} (xs ys : List A) (z : A) (i n : ℕ) → length xs ≡ n → n ≤ i

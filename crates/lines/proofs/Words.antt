@@ -2,14 +2,20 @@
 -- Not here: the table (pages.proofs.Table). Assumes nothing.
 use Prim.Native.Nat.{ℕ}
 use mathlib.Core.Path.{_≡_, refl, sym, ap, _∙_}
-use mathlib.Core.Bool.{Bool, true, false}
+use mathlib.Core.Bool.{Bool, true, false, _&&_}
 use mathlib.Core.List.{List}
+use native.Mathlib.Omega.{arith}
 use lib.Dec.{eqb}
 use borrow.Author.Tests.{eqb-true, eqb-false, eq-eqb, ne-eqb}
+use Rattle.pages.specs.declared.Side.{Side}
+use Rattle.pages.specs.declared.Side.the-variants.{Left, Right}
+use Rattle.pages.specs.declared.Live.{Live}
+use Rattle.pages.specs.declared.Live.the-variants.{Nowhere, On}
+use Rattle.pages.specs.declared.State.the-variants.{S0}
 use Rattle.pages.specs.declared.State.{State}
 use Rattle.pages.specs.Pages.{wordOf, statusOf, lineOf, rowOf}
 use Rattle.pages.proofs.Table.{words-of, state-of}
-use Rattle.plans.specs.Plans.{meets}
+use Rattle.plans.specs.Plans.{clean, meets}
 use Rattle.plans.proofs.Laws.{line-same}
 
 pub meets-same : (wanted s : State) → meets wanted s ≡ true → s ≡ wanted
@@ -26,22 +32,49 @@ at-none wanted s h = go (eqb (lineOf s) 0) refl
     go true e = sym (eq-eqb (lineOf wanted) (lineOf s) (h ∙ sym (eqb-true (lineOf s) 0 e)))
     go false e = sym (ne-eqb (lineOf wanted) (lineOf s) (λ q. eqb-false (lineOf s) 0 e (sym q ∙ h)))
 
+pub none-alike : (wanted s : State) → lineOf wanted ≡ 0 → meets S0 s ≡ meets wanted s
+none-alike wanted s h = sym (at-none S0 s refl) ∙ at-none wanted s h
+
 -- and from the two words of its row elsewhere
 not-there : (wanted s : State) → (s ≡ wanted → ⊥) → false ≡ meets wanted s
 not-there wanted s h = sym (ne-eqb (lineOf wanted) (lineOf s) (λ e. h (sym (line-same wanted s e))))
 
-pub left-differs : (wanted : State) (l r : List ℕ) → (lineOf wanted ≡ 0 → ⊥) → (wordOf l ≡ rowOf wanted .0 → ⊥)
-    → false ≡ meets wanted (statusOf l r .state)
-left-differs wanted l r h k = not-there wanted (statusOf l r .state) (λ e. k (words-of l r wanted e h .0))
-
-pub right-decides : (wanted : State) (l r : List ℕ) → (lineOf wanted ≡ 0 → ⊥) → wordOf l ≡ rowOf wanted .0
-    → eqb (wordOf r) (rowOf wanted .1) ≡ meets wanted (statusOf l r .state)
-right-decides wanted l r h k = go (eqb (wordOf r) (rowOf wanted .1)) refl
+pub row-decides : (wanted : State) (l r : List ℕ) → (lineOf wanted ≡ 0 → ⊥)
+    → (eqb (wordOf l) (rowOf wanted .0) && eqb (wordOf r) (rowOf wanted .1)) ≡ meets wanted (statusOf l r .state)
+row-decides wanted l r h = go (eqb (wordOf l) (rowOf wanted .0)) (eqb (wordOf r) (rowOf wanted .1)) refl refl
   where
-    go : (t : Bool) → eqb (wordOf r) (rowOf wanted .1) ≡ t → t ≡ meets wanted (statusOf l r .state)
-    go true e =
-        let q = eqb-true (wordOf r) (rowOf wanted .1) e in
-        sym (same-meets wanted (statusOf l r .state) (state-of l r wanted h k q))
-    go false e =
+    go : (s t : Bool) → eqb (wordOf l) (rowOf wanted .0) ≡ s → eqb (wordOf r) (rowOf wanted .1) ≡ t
+        → (s && t) ≡ meets wanted (statusOf l r .state)
+    go true true e f =
+        sym (same-meets wanted (statusOf l r .state)
+        (state-of l r wanted h (eqb-true (wordOf l) (rowOf wanted .0) e) (eqb-true (wordOf r) (rowOf wanted .1) f)))
+    go true false e f =
         not-there wanted (statusOf l r .state)
-        (λ q. eqb-false (wordOf r) (rowOf wanted .1) e (words-of l r wanted q h .1))
+        (λ q. eqb-false (wordOf r) (rowOf wanted .1) f (words-of l r wanted q h .1))
+    go false t e f =
+        not-there wanted (statusOf l r .state)
+        (λ q. eqb-false (wordOf l) (rowOf wanted .0) e (words-of l r wanted q h .0))
+
+-- two words compared one after the other
+pub left-differs : (a b l r : ℕ) → (a ≡ l → ⊥) → false ≡ (eqb a l && eqb b r)
+left-differs a b l r h = sym (simp (ne-eqb a l h))
+
+pub right-decides : (a b l r : ℕ) → a ≡ l → eqb b r ≡ (eqb a l && eqb b r)
+right-decides a b l r e = sym (simp (eq-eqb a l e))
+
+-- at the line of the image cells, which the live side tells
+pub clean-none : (live : Live) (l r : List ℕ) (t : Bool) → live ≡ Nowhere → t ≡ meets S0 (statusOf l r .state)
+    → t ≡ meets (clean live) (statusOf l r .state)
+clean-none live l r t e h = h ∙ ap (λ (x : Live). meets (clean x) (statusOf l r .state)) (sym e)
+
+side-decides : (s : Side) (l r : List ℕ)
+    → (eqb (wordOf l) (rowOf (clean (On s)) .0) && eqb (wordOf r) (rowOf (clean (On s)) .1))
+    ≡ meets (clean (On s)) (statusOf l r .state)
+side-decides Left l r = row-decides (clean (On Left)) l r (λ e. absurd (omega (arith, e)))
+side-decides Right l r = row-decides (clean (On Right)) l r (λ e. absurd (omega (arith, e)))
+
+pub clean-side : (live : Live) (s : Side) (l r : List ℕ) (t : Bool) → live ≡ On s
+    → t ≡ (eqb (wordOf l) (rowOf (clean (On s)) .0) && eqb (wordOf r) (rowOf (clean (On s)) .1))
+    → t ≡ meets (clean live) (statusOf l r .state)
+clean-side live s l r t e h =
+    h ∙ side-decides s l r ∙ ap (λ (x : Live). meets (clean x) (statusOf l r .state)) (sym e)

@@ -9,8 +9,10 @@ use pages::State;
 use plans::Request;
 ghost use mathlib.Core.Bool.{_&&_};
 ghost use mathlib.Core.Path.{_≡_};
-ghost use Rattle.pages.specs.Pages.{rowOf, statusOf};
-ghost use Rattle.plans.specs.Plans.{counts, othersErased, meets};
+ghost use lib.Dec.{eqb};
+ghost use Rattle.pages.specs.declared.State.the-variants.{S0};
+ghost use Rattle.pages.specs.Pages.{wordOf, rowOf, statusOf};
+ghost use Rattle.plans.specs.Plans.{counts, othersErased, clean, meets};
 ghost use Rattle.lines.specs.Starts.{startOf};
 
 // The line of two pages, and whether what has to be blank is erased already.
@@ -113,6 +115,26 @@ fn right_word(state: State) -> u32
     }
 }
 
+// Whether the pages hold the two words of a state's row.
+fn has_words(left: &[u8], right: &[u8], state: State) -> bool
+    ensures { λ r.
+        ⌜ r ≡ (eqb (wordOf (now (left .entry))) (rowOf state .0)
+        && eqb (wordOf (now (right .entry))) (rowOf state .1)) ⌝ }
+{
+    if pages::word(left) != left_word(state) {
+        return false;
+    }
+    pages::word(right) == right_word(state)
+}
+
+// Whether the pages are at line 0: no row has their words.
+fn is_none(left: &[u8], right: &[u8]) -> bool
+    ensures { λ r. ⌜ r ≡ meets S0 (statusOf (now (left .entry)) (now (right .entry)) .state) ⌝ }
+{
+    let state = pages::status_of(left, right).state;
+    state.line() == 0
+}
+
 // Whether the pages are at a line. The line is known, so its row's two words say it; only line 0
 // needs the whole look-up.
 pub fn is_at(left: &[u8], right: &[u8], wanted: State) -> bool
@@ -120,11 +142,22 @@ pub fn is_at(left: &[u8], right: &[u8], wanted: State) -> bool
         ⌜ r ≡ meets wanted (statusOf (now (left .entry)) (now (right .entry)) .state) ⌝ }
 {
     if wanted.line() == 0 {
-        let state = pages::status_of(left, right).state;
-        return state.line() == 0;
+        return is_none(left, right);
     }
-    if pages::word(left) != left_word(wanted) {
-        return false;
+    has_words(left, right, wanted)
+}
+
+// Whether the pages are at the line at which image cells are programmed, from the live side. It is
+// `is_at` of that line with the row known: what nearly every step of a save asks.
+pub fn is_clean(left: &[u8], right: &[u8], live: Live) -> bool
+    ensures { λ r.
+        ⌜ r ≡ meets (clean live) (statusOf (now (left .entry)) (now (right .entry)) .state) ⌝ }
+{
+    match live {
+        Live::Nowhere => is_none(left, right),
+        Live::On(side) => match side {
+            Side::Left => has_words(left, right, State::S1),
+            Side::Right => has_words(left, right, State::S8),
+        },
     }
-    pages::word(right) == right_word(wanted)
 }

@@ -428,7 +428,7 @@ unfolding stepped
 step-ended w list l r e =
     simp (le-ltb (length list) (w .place) (omega arith), eq-eqb (length list) (w .place) e)
 
-step-made : (w : Walk) (list : List Entry) (l r : List ℕ) (x : Entry) → w .place < length list
+pub step-made : (w : Walk) (list : List Entry) (l r : List ℕ) (x : Entry) → w .place < length list
     → getD list (w .place) nothing ≡ x → meets (x .state) (statusOf l r .state) ≡ true → tried (x .step) l r .number ≡ 0
     → stepped w list l r
     ≡ (record {
@@ -516,7 +516,7 @@ made-agree b k h j x a g lt e later =
     }
 
 -- the step on the board, with the held data, and the step in the book, by their tests
-held-step : (b : Board) (k : Book) (d : List ℕ) (h : Hand) (j : Job) → Agree b k
+pub held-step : (b : Board) (k : Book) (d : List ℕ) (h : Hand) (j : Job) → Agree b k
     → (g : Walking (k .page) (k .image) (b .left) (b .right) h j) → eqb (length d) (length (h .held)) ≡ true
     → stepHand b (some h) d ≡ afterStep (h .held) (stepped (h .walk) (g .list) (b .left) (b .right))
 held-step b k d h j a g p =

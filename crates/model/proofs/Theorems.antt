@@ -1,6 +1,6 @@
 -- What follows from demand 3 and its proof.
 -- In order: a walk stepped on is made exactly as many steps as are counted, then has ended; reads show what the
--- committed requests give, one after another; a finished save.
+-- committed requests give, one after another; a finished save, its image and its line.
 -- Assumes nothing.
 use Prim.Native.Nat.{ℕ, zero, suc, _+_, _-_, _/_, _<_, _≤_}
 use mathlib.Core.Path.{_≡_, refl, sym, ap, ap₂, subst, _∙_}
@@ -10,7 +10,8 @@ use mathlib.Core.Option.{Option, none, some}
 use native.Mathlib.Numerals.{lt-of-le-of-ne}
 use native.Mathlib.Omega.{arith}
 use lib.Dec.{eqb}
-use lib.ListN.{length, take, drop, replicate}
+use lib.ListN.{length, getD, take, drop, replicate}
+use lib.Seq.{drop-cons}
 use borrow.Author.Tests.{eq-eqb, ne-eqb, eqb-true, eqb-false}
 use Rattle.flash.specs.Flash.{Bytes}
 use Rattle.requests.specs.Numbers.{requestNumber, pagesNumber}
@@ -19,20 +20,39 @@ use Rattle.pages.specs.declared.State.{State}
 use Rattle.pages.specs.declared.Side.the-variants.{Left}
 use Rattle.pages.specs.declared.Live.{Live}
 use Rattle.pages.specs.declared.Live.the-variants.{Nowhere, On}
-use Rattle.pages.specs.Pages.{liveOf}
+use Rattle.pages.specs.Pages.{liveOf, statusOf}
+use Rattle.pages.proofs.Table.{status-live}
+use Rattle.steps.specs.Steps.{tried}
 use Rattle.plans.specs.declared.Entry.{Entry}
-use Rattle.plans.specs.Plans.{ready, clean, target, cells, marks, saving}
+use Rattle.plans.specs.declared.Request.{Request}
+use Rattle.plans.specs.Plans.{plan, meets, nothing, ready, clean, target, cells, marks, saving}
 use Rattle.plans.specs.Counts.{stepCount}
-use Rattle.walks.specs.Walks.{newImage, stepsOf, firstWalk, stepOf, wrongNumbers}
+use Rattle.walks.specs.Walks as W
+use Rattle.walks.specs.Walks.{newImage, stepsOf, firstWalk, beginSave, advanced, stepOf, wrongNumbers}
 use Rattle.plans.specs.declared.Request.the-variants.{Save}
 use Rattle.requests.proofs.Laws.{legal}
 use Rattle.reads.specs.Reads.{readPart}
 use Rattle.images.proofs.Overlay.{data-back}
 use Rattle.plans.proofs.Counts.{bound}
+use Rattle.plans.proofs.Good.{Good}
 use Rattle.walks.proofs.Sizes.{steps-length}
 use Rattle.model.specs.Calls.{Call, Answer, ByteCalls}
 use Rattle.model.specs.Calls as C
-use Rattle.model.specs.Board.{Hand, Board, handed, partRead, powered, turn, answers, boardAfter}
+use Rattle.model.specs.Board.{
+  Hand,
+  Board,
+  Turn,
+  afterBegin,
+  handed,
+  afterStep,
+  stepHand,
+  partRead,
+  powered,
+  turn,
+  answers,
+  boardAfter,
+  settled,
+}
 use Rattle.model.specs.Book as B
 use Rattle.model.specs.Book.{
   dataOf,
@@ -62,10 +82,13 @@ use Rattle.model.proofs.Agree.{
   same-read,
   begun-save,
   unchanged,
+  step-made,
+  held-step,
   book-step,
   follow,
 }
 use Rattle.model.proofs.Demand3.{opens, still-agree}
+use Rattle.model.proofs.Settled.{lastMark, last-leaves, last-entry}
 
 -- ---- a walk stepped on
 -- the walk of an agreeing board, and its job
@@ -333,6 +356,97 @@ byte-steps : (m : ℕ) (d : List ℕ) → ByteCalls (replicate m (C.step d))
 byte-steps zero d = tt
 byte-steps (suc m) d = (tt, byte-steps m d)
 
+-- a step on the board where one remains: what the entry at its place makes of the pages
+abbrev Made : List ℕ → List ℕ → Hand → Entry → Turn
+Made l r h x =
+    afterStep (h .held)
+    (record {
+      said = W.made;
+      walk = advanced (h .walk);
+      left = tried (x .step) l r .left;
+      right = tried (x .step) l r .right;
+    })
+
+record One (l r : List ℕ) (h : Hand) (x : Entry) : Type 0 where
+  meets : meets (x .state) (statusOf l r .state) ≡ true
+  made : stepHand (record { left = l; right = r; hand = some h }) (some h) (h .held) ≡ Made l r h x
+
+one-step : (l r : List ℕ) (h : Hand) (k : Book) (j : Job)
+    → Agree (record { left = l; right = r; hand = some h }) k
+    → (g : Walking (k .page) (k .image) l r h j) → j .made < length (g .list)
+    → One l r h (getD (g .list) (j .made) nothing)
+one-step l r h k j a g lt =
+    let b : Board = record { left = l; right = r; hand = some h } in
+    let x = getD (g .list) (j .made) nothing in
+    let good : Good (k .image) (g .then) (x ∷ drop (suc (j .made)) (g .list)) l r =
+    subst (λ (xs : List Entry). Good (k .image) (g .then) xs l r) (drop-cons (g .list) (j .made) nothing lt)
+    (g .good) in
+    let place : h .walk .place ≡ j .made = g .place in
+    let here : getD (g .list) (h .walk .place) nothing ≡ x =
+    ap (λ (n : ℕ). getD (g .list) n nothing) place in
+    record {
+      meets = good .1;
+      made =
+          held-step b k (h .held) h j a g (eq-eqb (length (h .held)) (length (h .held)) refl)
+          ∙ ap (afterStep (h .held)) (step-made (h .walk) (g .list) l r x (omega arith) here (good .1) (good .2));
+    }
+
+-- the last entry of a save's list, whatever the image
+last-of : (w : Request) (st : State) (erased : Bool) (new : List ℕ) (k : ℕ) (list : List Entry) → w ≡ Save
+    → plan w st erased new ≡ list → k + 1 ≡ length list → getD list k nothing ≡ lastMark (liveOf st)
+last-of w st erased new k list e f n =
+    let s : list ≡ saving st erased new = sym f ∙ ap (λ (q : Request). plan q st erased new) e in
+    ap (λ (xs : List Entry). getD xs k nothing) s ∙ last-entry st erased new k (n ∙ ap length s)
+
+-- a save stepped to its end: its last step leaves line 7 or line 3
+abbrev Ends-at : State → Board → Type 0
+Ends-at st b = statusOf (b .left) (b .right) .state ≡ st
+
+settles : (m : ℕ) (l r : List ℕ) (h : Hand) (k : Book) (j : Job) → k .job ≡ some j
+    → Agree (record { left = l; right = r; hand = some h }) k → h .walk .request ≡ Save → j .made + suc m ≡ j .total
+    → Ends-at (settled (liveOf (h .walk .start)))
+    (boardAfter (record { left = l; right = r; hand = some h }) (replicate (suc m) (C.step (h .held))))
+unfolding boardAfter turn
+settles zero l r h k j e a s n =
+    let b : Board = record { left = l; right = r; hand = some h } in
+    let w = h .walk in
+    let v = liveOf (w .start) in
+    let g = in-hand b k h j a refl e in
+    let total : j .total ≡ length (g .list) = g .total in
+    let one = one-step l r h k j a g (omega arith) in
+    let x = getD (g .list) (j .made) nothing in
+    let last : x ≡ lastMark v =
+    last-of (w .request) (w .start) (w .erased) (newImage v (w .page) (w .offset .0) (h .held) (k .image)) (j .made)
+    (g .list) s (g .nowList) (omega arith) in
+    let left : length l ≡ k .page = a .left in
+    let right : length r ≡ k .page = a .right in
+    let met : meets (lastMark v .state) (statusOf l r .state) ≡ true =
+    subst (λ (y : Entry). meets (y .state) (statusOf l r .state) ≡ true) last (one .meets) in
+    ap (λ (t : Turn). statusOf (t .board .left) (t .board .right) .state) (one .made)
+    ∙ ap (λ (y : Entry). statusOf (tried (y .step) l r .left) (tried (y .step) l r .right) .state) last
+    ∙ last-leaves v l r (a .bytesLeft) (a .bytesRight) (omega (arith, a .page .least)) (omega (arith, a .page .least))
+    met
+settles (suc m) l r h k j e a s n =
+    let b : Board = record { left = l; right = r; hand = some h } in
+    let g = in-hand b k h j a refl e in
+    let total : j .total ≡ length (g .list) = g .total in
+    let x = getD (g .list) (j .made) nothing in
+    let one = one-step l r h k j a g (omega arith) in
+    let same =
+    right-step k j (h .held) false e (ap length (g .held)) (ne-eqb (j .total) (j .made) (λ q. omega arith)) in
+    let f : Agree (Made l r h x .board) (oneMore k j) =
+    subst (λ (t : Turn). Agree (t .board) (oneMore k j)) (one .made)
+    (subst (λ (y : Entered). Agree (turn b (C.step (h .held)) .board) (y .book)) same
+    (follow b k (C.step (h .held)) tt a .1)) in
+    let h′ : Hand = record { walk = advanced (h .walk); held = h .held } in
+    ap
+    (λ (t : Turn).
+    let end = boardAfter (t .board) (replicate (suc m) (C.step (h .held))) in
+    statusOf (end .left) (end .right) .state)
+    (one .made)
+    ∙ settles m (tried (x .step) l r .left) (tried (x .step) l r .right) h′ (oneMore k j) (nextJob j) refl f s
+    (omega arith)
+
 -- the steps that a save of some data at an offset is counted on pages
 abbrev pub saveSteps : List ℕ → List ℕ → ℕ → List ℕ → ℕ
 saveSteps l r o d =
@@ -343,17 +457,18 @@ saveSteps l r o d =
 abbrev pub wholeSave : List ℕ → List ℕ → ℕ → List ℕ → List Call
 wholeSave l r o d = C.save o d ∷ replicate (saveSteps l r o d) (C.step d)
 
--- the old image with the data laid in, and the data read back
+-- the old image with the data laid in, and the data read back; "the pair is now line 7 or line 3"
 pub record Finished (l r z y : List ℕ) (o : ℕ) (d : List ℕ) : Type 0 where
   pub image : liveImage z y ≡ some (overlaid (orBlank (length l - 4) (liveImage l r)) (o - 4) d)
   pub readBack : readPart z y o (length d) ≡ d
+  pub state : statusOf z y .state ≡ settled (statusOf l r .live)
 
 finished : (b : Board) (k : Book) (o : ℕ) (d : List ℕ) → Agree b k → Bytes d
     → requestNumber (length (b .left)) (length (b .right)) o (length d) 0 ≡ 0
     → Finished (b .left) (b .right)
     (boardAfter b (wholeSave (b .left) (b .right) o d) .left) (boardAfter b (wholeSave (b .left) (b .right) o d) .right)
     o d
-unfolding bookAfter hearing entry
+unfolding bookAfter hearing entry boardAfter turn beginSave
 finished b k o d a bd z =
     let l = b .left in
     let r = b .right in
@@ -393,6 +508,23 @@ finished b k o d a bd z =
     data-back base (o - 4) d (omega (arith, h .ends, h .inImage)) in
     let number : B.readBook kz o (length d) ≡ 0 =
     ap₂ (λ (x : ℕ) (i : Option (List ℕ)). requestNumber x x o (length d) (B.imageNumber i)) page image ∙ none-given in
+    let h₁ : Hand = record { walk = w; held = d } in
+    let b₁ : Board = record { left = l; right = r; hand = some h₁ } in
+    let taken : turn b (C.save o d) .board ≡ b₁ =
+    let number = requestNumber (length l) (length r) o (length d) 0 in
+    ap (λ (t : Bool). afterBegin b d (cond t (W.begun w) (W.refused number)) .board) (eq-eqb number 0 z) in
+    let agree₁ : Agree b₁ k₁ =
+    subst (λ (y : Board). Agree y k₁) taken
+    (subst (λ (x : Entered). Agree (turn b (C.save o d) .board) (x .book)) begun (follow b k (C.save o d) bd a .1)) in
+    let more : m ≡ suc (m - 1) = omega arith in
+    let settles-there : Ends-at (settled (liveOf (w .start))) (boardAfter b₁ (replicate (suc (m - 1)) (C.step d))) =
+    settles (m - 1) l r h₁ k₁ (B.jobOf (B.save o d) list) refl agree₁ refl (omega arith) in
+    let state : statusOf (end .left) (end .right) .state ≡ settled (statusOf l r .live) =
+    ap₂
+    (λ (y : Board) (n : ℕ).
+    let last = boardAfter y (replicate n (C.step d)) in statusOf (last .left) (last .right) .state)
+    taken more
+    ∙ settles-there ∙ ap settled (sym (status-live l r)) in
     record {
       image =
           agree .shows ∙ image
@@ -401,6 +533,7 @@ finished b k o d a bd z =
       readBack =
           same-part end kz o (length d) agree number
           ∙ ap (λ (i : Option (List ℕ)). B.askedBytes i o (length d)) image ∙ back;
+      state = state;
     }
 
 pub finished-save : (l r : List ℕ) (calls : List Call) (o : ℕ) (d : List ℕ) → pagesNumber (length l) (length r) ≡ 0

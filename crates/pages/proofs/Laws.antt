@@ -1,58 +1,50 @@
 -- Laws of offsets and of the look-up in a list of rows.
 -- In order: the look-up, row by row; offsets.
 -- Not here: what holds of document 01's own table (Table.antt). Assumes nothing.
-use Prim.Native.Nat.{ℕ, suc, _-_, _<_, _≤_}
-use mathlib.Core.Path.{_≡_, refl, sym, ap, _∙_}
-use mathlib.Core.Bool.{Bool, true, false, cond}
-use mathlib.Core.List.{List}
+use Prim.Native.Nat.{ℕ, _+_, _*_, _-_, _<_, _≤_}
+use mathlib.Core.Path.{_≡_, refl, sym, _∙_}
+use mathlib.Core.Bool.{Bool, true, false, cond, _&&_}
+use mathlib.Core.List.{List, _∷_}
 use native.Mathlib.Omega.{arith}
-use lib.Dec.{ltb}
-use lib.ListN.{length, getD, drop}
-use lib.Seq.{drop-cons}
-use borrow.Author.Tests.{eq-eqb, ne-eqb, lt-ltb, le-ltb, ltb-true, ltb-false}
-use Rattle.pages.specs.declared.State.the-variants.{S0}
-use Rattle.pages.specs.declared.Side.the-variants.{Left}
+use lib.Dec.{eqb, ltb}
+use borrow.Author.Tests.{eq-eqb, ne-eqb, lt-ltb, le-ltb, eqb-true, eqb-false, ltb-true, ltb-false}
 use Rattle.pages.specs.declared.Live.the-variants.{On}
 use Rattle.pages.specs.declared.Status.{Status}
 use Rattle.pages.specs.declared.Row.{Row}
 use Rattle.pages.specs.declared.PageOffset.{PageOffset}
 use Rattle.pages.specs.declared.ImageOffset.{ImageOffset}
 use Rattle.pages.specs.declared.InImage.the-variants.{Management, At}
-use Rattle.pages.specs.Pages.{row, picked, look}
+use Rattle.pages.specs.Pages.{hits, look}
 use Rattle.pages.specs.Offsets.{toImage}
 
--- what a read past a table's end would give
-abbrev pub none : Row
-none = row 0 0 S0 Left
-
--- a row whose words differ is passed over, and one that holds them is the answer
-pub left-differs : (x : Row) (l r : ℕ) (rest : Status) → (x .0 ≡ l → ⊥) → picked x l r rest ≡ rest
-left-differs x l r rest h = simp (ne-eqb (x .0) l h)
-
-pub right-differs : (x : Row) (l r : ℕ) (rest : Status) → x .0 ≡ l → (x .1 ≡ r → ⊥) → picked x l r rest ≡ rest
-right-differs x l r rest e h = simp (eq-eqb (x .0) l e, ne-eqb (x .1) r h)
-
-pub words-held : (x : Row) (l r : ℕ) (rest : Status) → x .0 ≡ l → x .1 ≡ r
-    → picked x l r rest ≡ (record { state = x .2; live = On (x .3) })
-words-held x l r rest e h = simp (eq-eqb (x .0) l e, eq-eqb (x .1) r h)
-
--- the look-up from a row on, from the look-up after it
-look-cons : (xs : List Row) (i l r : ℕ) → i < length xs
-    → look (drop i xs) l r ≡ picked (getD xs i none) l r (look (drop (suc i) xs) l r)
+-- a row that doesn't hold the words is passed over, and one that holds them is the answer
+pub passed : (x : Row) (xs : List Row) (l r : ℕ) (t : Bool) → t ≡ hits x l r → t ≡ false
+    → look (x ∷ xs) l r ≡ look xs l r
 unfolding look
-look-cons xs i l r h = rw (drop-cons xs i none h)
+passed x xs l r t e h = simp (sym e ∙ h)
 
-pub look-before : (xs : List Row) (i l r : ℕ) → 0 < i → i ≤ length xs
-    → picked (getD xs (i - 1) none) l r (look (drop i xs) l r) ≡ look (drop (i - 1) xs) l r
-look-before xs i l r p h =
-    let e : suc (i - 1) ≡ i = omega arith in
-    sym (look-cons xs (i - 1) l r (omega arith)
-    ∙ ap (λ (k : ℕ). picked (getD xs (i - 1) none) l r (look (drop k xs) l r)) e)
+pub held : (x : Row) (xs : List Row) (l r : ℕ) (t : Bool) (s : Status) → t ≡ hits x l r → t ≡ true
+    → s ≡ (record { state = x .2; live = On (x .3) }) → s ≡ look (x ∷ xs) l r
+unfolding look
+held x xs l r t s e h f = f ∙ sym (simp (sym e ∙ h))
 
-pub look-all : (xs : List Row) (i l r : ℕ) (s : Status) → i ≤ 0 → s ≡ look (drop i xs) l r → s ≡ look xs l r
-look-all xs i l r s h e =
-    let z : i ≡ 0 = omega arith in
-    e ∙ ap (λ (k : ℕ). look (drop k xs) l r) z
+-- two words as one number tell both
+pub both-words : (a b l r : ℕ) → a < 4294967296 → l < 4294967296
+    → eqb (a + b * 4294967296) (l + r * 4294967296) ≡ (eqb a l && eqb b r)
+both-words a b l r h k = go (eqb a l) (eqb b r) refl refl
+  where
+    go : (s t : Bool) → eqb a l ≡ s → eqb b r ≡ t → eqb (a + b * 4294967296) (l + r * 4294967296) ≡ (s && t)
+    go true true e f =
+        let p = eqb-true a l e in
+        let q = eqb-true b r f in
+        eq-eqb (a + b * 4294967296) (l + r * 4294967296) (omega (arith, p, q))
+    go true false e f =
+        let p = eqb-true a l e in
+        let q = eqb-false b r f in
+        ne-eqb (a + b * 4294967296) (l + r * 4294967296) (λ z. q (omega (arith, p, z)))
+    go false t e f =
+        let p = eqb-false a l e in
+        ne-eqb (a + b * 4294967296) (l + r * 4294967296) (λ z. p (omega (arith, h, k, z)))
 
 -- an offset below 4 lies in the management bytes; any other has an image offset, 4 less
 pub in-management : (o : PageOffset) → o .0 < 4 → toImage o ≡ Management

@@ -4,8 +4,10 @@
 // A page is P bytes. Bytes 0 to 3 are management: Valid, Active, Dead, Spare, one 32-bit word with
 // Valid lowest. Bytes 4 to P - 1 are the image. What each answer means is in specs/Pages.antt.
 ghost use mathlib.Core.Path.{_≡_};
+ghost use Prim.Native.Nat.{_+_, _*_};
 ghost use lib.ListN.{getD};
-ghost use Rattle.pages.specs.Pages.{wordOf, wordFrom, picked, look, table, statusOf, lineOf};
+ghost use Rattle.pages.specs.declared.Live.the-variants.{On};
+ghost use Rattle.pages.specs.Pages.{wordOf, wordFrom, hits, look, table, statusOf, lineOf};
 ghost use Rattle.pages.specs.Offsets.{toImage};
 
 // How many bytes of a page are management.
@@ -82,16 +84,24 @@ const TABLE: [Row; 9] = [
     Row(0xFFFFFF00, 0xFF000000, State::S10, Side::Left),
 ];
 
-// The state and live side of a row that holds the words, else what the rows after it gave.
-fn pick(row: Row, left: u32, right: u32, rest: Status) -> Status
-    ensures { λ r. ⌜ r ≡ picked row left right rest ⌝ }
+// Two words as one number.
+fn joined_words(left: u32, right: u32) -> u64
+    ensures { λ r. ⌜ r ≡ left + right * 4294967296 ⌝ }
 {
-    if row.0 != left {
-        return rest;
-    }
-    if row.1 != right {
-        return rest;
-    }
+    left as u64 + right as u64 * 4294967296
+}
+
+// Whether a row holds the words.
+fn is_row(row: Row, left: u32, right: u32) -> bool
+    ensures { λ r. ⌜ r ≡ hits row left right ⌝ }
+{
+    joined_words(row.0, row.1) == joined_words(left, right)
+}
+
+// The state of a row and its live side.
+fn of_row(row: Row) -> Status
+    ensures { λ r. ⌜ r ≡ (record { state = row .2; live = On (row .3) }) ⌝ }
+{
     let state = row.2;
     let live = row.3;
     Status {
@@ -101,21 +111,52 @@ fn pick(row: Row, left: u32, right: u32, rest: Status) -> Status
 }
 
 // The state of a pair of words, and its live side: those of the table's row with these words, or
-// S0. The rows are gone through from the last to the first: compiled, the table is then constants.
+// S0. The rows stand one by one and each test compares one number: compiled, that is a search by
+// halves among constants, and no table in memory.
 fn look_up(left: u32, right: u32) -> Status
     ensures { λ r. ⌜ r ≡ look table left right ⌝ }
 {
     let rows = TABLE;
-    let mut found = Status {
+    let row0 = rows[0];
+    if is_row(row0, left, right) {
+        return of_row(row0);
+    }
+    let row1 = rows[1];
+    if is_row(row1, left, right) {
+        return of_row(row1);
+    }
+    let row2 = rows[2];
+    if is_row(row2, left, right) {
+        return of_row(row2);
+    }
+    let row3 = rows[3];
+    if is_row(row3, left, right) {
+        return of_row(row3);
+    }
+    let row4 = rows[4];
+    if is_row(row4, left, right) {
+        return of_row(row4);
+    }
+    let row5 = rows[5];
+    if is_row(row5, left, right) {
+        return of_row(row5);
+    }
+    let row6 = rows[6];
+    if is_row(row6, left, right) {
+        return of_row(row6);
+    }
+    let row7 = rows[7];
+    if is_row(row7, left, right) {
+        return of_row(row7);
+    }
+    let row8 = rows[8];
+    if is_row(row8, left, right) {
+        return of_row(row8);
+    }
+    Status {
         state: State::S0,
         live: Live::Nowhere,
-    };
-    let mut i: usize = 9;
-    while 0 < i {
-        i -= 1;
-        found = pick(rows[i], left, right, found);
     }
-    found
 }
 
 // The byte at a place, or 0 past the end.
@@ -131,8 +172,8 @@ fn joined(valid: u8, active: u8, dead: u8, spare: u8) -> u32
     valid as u32 + active as u32 * 256 + dead as u32 * 65536 + spare as u32 * 16777216
 }
 
-// The management word of a page. Bytes that a shorter slice lacks count as 0.
-pub fn word(page: &[u8]) -> u32
+// The management word of a slice that may lack some of its bytes.
+fn short_word(page: &[u8]) -> u32
     ensures { λ r. ⌜ r ≡ wordOf (now (page .entry)) ⌝ }
 {
     joined(
@@ -141,6 +182,16 @@ pub fn word(page: &[u8]) -> u32
         byte_at(page, 2),
         byte_at(page, 3),
     )
+}
+
+// The management word of a page. Bytes that a shorter slice lacks count as 0.
+pub fn word(page: &[u8]) -> u32
+    ensures { λ r. ⌜ r ≡ wordOf (now (page .entry)) ⌝ }
+{
+    if page.len() < 4 {
+        return short_word(page);
+    }
+    joined(page[0], page[1], page[2], page[3])
 }
 
 // The state of two pages, and which of them is live.

@@ -20,9 +20,13 @@ use Rattle.plans.specs.declared.Request.the-variants.{Save, Format}
 use Rattle.plans.specs.declared.Entry.{Entry}
 use Rattle.plans.specs.declared.Spot.{Spot}
 use Rattle.plans.specs.declared.Spot.the-variants.{Fixed, Cell, Beyond}
+use Rattle.plans.specs.declared.InCells as I
+use Rattle.plans.specs.declared.InCells.{InCells}
+use Rattle.pages.specs.declared.ImageOffset.{ImageOffset}
 use Rattle.plans.specs.Plans.{entry, ready, clean, target, marks, saving, formatting, plan, nothing}
 use Rattle.plans.specs.Counts.{cellCount, added, stepCount}
-use Rattle.plans.specs.Spots.{saveSpotAt, saveSpot, requestSpot, spotOf}
+use Rattle.plans.specs.Spots.{saveSpotAt, saveSpot, requestSpot, spotOf, cellIn}
+use Rattle.plans.proofs.Counts.{ready-length}
 use Rattle.plans.proofs.Laws.{ready-some, ready-count, save-ready, save-cell, save-mark, format-at}
 
 -- the entry at a place, given the new image
@@ -189,3 +193,82 @@ spot-sound request start erased p place x h e =
     go : (q : Request) → Sound start p (requestSpot q start erased p place)
     go Save = save-sound start erased p place
     go Format = tt
+
+-- ---- the image cell at a place
+-- past a save's image cells none stands, whether the list goes on or not
+pub cell-save : (request : Request) (start : State) (erased : Bool) (p place : ℕ) (x : InCells) → request ≡ Save
+    → x ≡ cellIn (saveSpot start erased p place) → x ≡ cellIn (spotOf request start erased p place)
+unfolding spotOf saveSpot
+cell-save request start erased p place x e h =
+    h ∙ go (ltb place (stepCount Save start erased p)) refl
+    ∙ ap (λ (q : Request). cellIn (spotOf q start erased p place)) (sym e)
+  where
+    last : stepCount Save start erased p ≤ place
+        → cellIn (saveSpotAt start erased p (length (ready start erased)) place) ≡ I.the-variants.Outside
+    last k =
+        let n : length (ready start erased) ≡ added start erased - 3 = ready-count start erased in
+        let m = ready-length start erased in
+        let a : length (ready start erased) ≤ place = omega (arith, m) in
+        let b : cellCount p ≤ place - length (ready start erased) = omega (arith, m) in
+        simp (
+          le-ltb place (length (ready start erased)) a,
+          le-ltb (place - length (ready start erased)) (cellCount p) b,
+        )
+
+    go : (t : Bool) → ltb place (stepCount Save start erased p) ≡ t
+        → cellIn (saveSpotAt start erased p (length (ready start erased)) place)
+        ≡ cellIn (cond t (saveSpotAt start erased p (length (ready start erased)) place) Beyond)
+    go true e = refl
+    go false e = last (ltb-false place (stepCount Save start erased p) e)
+
+pub cell-format : (request : Request) (start : State) (erased : Bool) (p place : ℕ) → request ≡ Format
+    → I.the-variants.Outside ≡ cellIn (spotOf request start erased p place)
+unfolding spotOf
+cell-format request start erased p place e =
+    go (ltb place (stepCount Format start erased p))
+    ∙ ap (λ (q : Request). cellIn (spotOf q start erased p place)) (sym e)
+  where
+    go : (t : Bool) → I.the-variants.Outside
+        ≡ cellIn (cond t (Fixed (getD (formatting start erased) place nothing)) Beyond)
+    go true = refl
+    go false = refl
+
+-- what a cell that was found says: its place lies in the list, and what stands there
+abbrev At-cell : Request → State → Bool → ℕ → ℕ → ImageOffset → Type 0
+At-cell request start erased p place at =
+    (place < stepCount request start erased p)
+    × (Cell (clean (liveOf start)) (target (liveOf start)) (liveOf start) at ≡ spotOf request start erased p place)
+
+apart : (at : ImageOffset) → I.the-variants.At at ≡ I.the-variants.Outside → ⊥
+apart at e = let z : _≡_ {A = ℕ} 0 1 = cc in omega (arith, z)
+
+found-in : (start : State) (p : ℕ) (x : Spot) (at : ImageOffset) → Sound start p x → I.the-variants.At at ≡ cellIn x
+    → Cell (clean (liveOf start)) (target (liveOf start)) (liveOf start) at ≡ x
+found-in start p (Fixed x) at s e = absurd (apart at e)
+found-in start p (Cell state t live i) at s e =
+    let q : at ≡ i = cc in
+    λ k.
+    Cell ((ap clean (sym (s .2)) ∙ sym (s .0)) k) ((ap target (sym (s .2)) ∙ sym (s .1)) k) (sym (s .2) k) (q k)
+found-in start p Beyond at s e = absurd (apart at e)
+
+pub cell-found : (request : Request) (start : State) (erased : Bool) (p place : ℕ) (at : ImageOffset)
+    → I.the-variants.At at ≡ cellIn (spotOf request start erased p place) → At-cell request start erased p place at
+cell-found request start erased p place at e = go (ltb place (stepCount request start erased p)) refl
+  where
+    go : (t : Bool) → ltb place (stepCount request start erased p) ≡ t → At-cell request start erased p place at
+    go true h =
+        let k = ltb-true place (stepCount request start erased p) h in (
+          k,
+          found-in start p (spotOf request start erased p place) at
+              (spot-sound request start erased p place (spotOf request start erased p place) k refl) e,
+        )
+    go false h =
+        let k = ltb-false place (stepCount request start erased p) h in
+        absurd (apart at (e ∙ ap cellIn (sym (beyond request start erased p place k))))
+
+-- and where none was found, none stands
+pub cell-missed : (request : Request) (start : State) (erased : Bool) (p place : ℕ) (state : State) (s : Side)
+    (live : Live) (at : ImageOffset) → I.the-variants.Outside ≡ cellIn (spotOf request start erased p place)
+    → Cell state s live at ≡ spotOf request start erased p place → ⊥
+cell-missed request start erased p place state s live at e h =
+    apart at (ap cellIn h ∙ sym e)

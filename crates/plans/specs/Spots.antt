@@ -11,6 +11,8 @@ use Rattle.plans.specs.declared.Request.{Request}
 use Rattle.plans.specs.declared.Request.the-variants.{Save, Format}
 use Rattle.plans.specs.declared.Spot.{Spot}
 use Rattle.plans.specs.declared.Spot.the-variants.{Fixed, Cell, Beyond}
+use Rattle.plans.specs.declared.InCells as I
+use Rattle.plans.specs.declared.InCells.{InCells}
 use Rattle.plans.specs.Plans.{ready, clean, target, marks, formatting, nothing}
 use Rattle.plans.specs.Counts.{cellCount, stepCount}
 
@@ -41,3 +43,9 @@ spotOf request start erased p place =
     cond (ltb place (stepCount request start erased p))
     (requestSpot request start erased p place)
     Beyond
+
+-- the image cell that stands at a place, if one does
+abbrev pub cellIn : Spot → InCells
+cellIn (Fixed x) = I.the-variants.Outside
+cellIn (Cell state s live at) = I.the-variants.At at
+cellIn Beyond = I.the-variants.Outside

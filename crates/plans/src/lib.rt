@@ -29,7 +29,7 @@ ghost use Rattle.plans.specs.Plans.{
   nothing,
 };
 ghost use Rattle.plans.specs.Counts.{cellCount, added, formatCount, stepCount};
-ghost use Rattle.plans.specs.Spots.{saveSpot, spotOf};
+ghost use Rattle.plans.specs.Spots.{saveSpot, spotOf, cellIn};
 
 pub enum Request {
     Save,
@@ -53,20 +53,41 @@ pub enum Spot {
     Beyond,
 }
 
+// Whether an image cell stands at a place of the list, and which.
+pub enum InCells {
+    At(ImageOffset),
+    Outside,
+}
+
 // ---- how many steps
 // What a save's steps are more than its image cells, 3 of them after these and the others before.
+// Every arm is a constant: compiled, that is a small table and no jump.
 fn added_steps(start: State, erased: bool) -> u32
     ensures { λ r. ⌜ r ≡ added start erased ⌝ }
 {
+    if erased {
+        return match start {
+            State::S0 => 3,
+            State::S1 => 3,
+            State::S2 => 5,
+            State::S3 => 4,
+            State::S5 => 6,
+            State::S6 => 5,
+            State::S7 => 4,
+            State::S8 => 3,
+            State::S9 => 6,
+            State::S10 => 5,
+        };
+    }
     match start {
-        State::S0 => if erased { 3 } else { 6 },
-        State::S1 => if erased { 3 } else { 4 },
+        State::S0 => 6,
+        State::S1 => 4,
         State::S2 => 5,
         State::S3 => 4,
         State::S5 => 6,
         State::S6 => 5,
         State::S7 => 4,
-        State::S8 => if erased { 3 } else { 4 },
+        State::S8 => 4,
         State::S9 => 6,
         State::S10 => 5,
     }
@@ -108,7 +129,7 @@ pub fn step_count(request: Request, start: State, erased: bool, page: u32) -> u3
 
 // ---- the entries of the list
 // The live side of a state.
-fn live_of(state: State) -> Live
+pub fn live_of(state: State) -> Live
     ensures { λ r. ⌜ r ≡ liveOf state ⌝ }
 {
     match state {
@@ -247,7 +268,7 @@ fn clean_state(live: Live) -> State
     }
 }
 
-fn target_side(live: Live) -> Side
+pub fn target_side(live: Live) -> Side
     ensures { λ r. ⌜ r ≡ target live ⌝ }
 {
     match live {
@@ -343,5 +364,32 @@ pub fn spot_at(request: Request, start: State, erased: bool, page: u32, place: u
     match request {
         Request::Save => save_spot(start, erased, page, place),
         Request::Format => Spot::Fixed(format_entry(start, place)),
+    }
+}
+
+// The image cell at a place of a save's list.
+fn save_cell(start: State, erased: bool, page: u32, place: u32) -> InCells
+    ensures { λ r. ⌜ r ≡ cellIn (saveSpot start erased page place) ⌝ }
+{
+    let before = added_steps(start, erased) - 3;
+    if place < before {
+        return InCells::Outside;
+    }
+    let cell = place - before;
+    if cell < cell_count(page) {
+        let inside = cell * 2;
+        return InCells::At(ImageOffset(inside));
+    }
+    InCells::Outside
+}
+
+// The image cell that stands at a place of the list, if one does: nearly every step of a save is
+// one, so a walk asks for it before it asks what else stands there.
+pub fn cell_at(request: Request, start: State, erased: bool, page: u32, place: u32) -> InCells
+    ensures { λ r. ⌜ r ≡ cellIn (spotOf request start erased page place) ⌝ }
+{
+    match request {
+        Request::Save => save_cell(start, erased, page, place),
+        Request::Format => InCells::Outside,
     }
 }

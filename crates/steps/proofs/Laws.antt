@@ -20,7 +20,7 @@ use Rattle.pages.specs.declared.PageOffset.{PageOffset}
 use Rattle.pages.specs.declared.ImageOffset.{ImageOffset}
 use Rattle.steps.specs.declared.Step.{Step}
 use Rattle.steps.specs.declared.Step.the-variants.{Mark, Image, Erase}
-use Rattle.steps.specs.Steps.{Tried, marked, imaged, blanked, onPage, tried}
+use Rattle.steps.specs.Steps.{Tried, marked, blanked, onPage, tried}
 
 -- ---- a cell of a page's later part
 set-append-add : (xs ys : List ℕ) (n a : ℕ) → set (xs ++ ys) (length xs + n) a ≡ xs ++ set ys n a
@@ -143,8 +143,7 @@ unfolding tried
 mark-tried step s at v l r t q e = e ∙ ap (λ (x : Step). tried x l r) (sym q)
 
 pub image-tried : (step : Step) (s : Side) (at : ImageOffset) (v : ℕ) (l r : List ℕ) (t : Tried) → step ≡ Image s at v
-    → t ≡ onPage s (λ page. imaged page at v) l r → t ≡ tried step l r
-unfolding tried
+    → t ≡ tried (Image s at v) l r → t ≡ tried step l r
 image-tried step s at v l r t q e = e ∙ ap (λ (x : Step). tried x l r) (sym q)
 
 pub erase-tried : (step : Step) (s : Side) (l r : List ℕ) (t : Tried) → step ≡ Erase s

@@ -8,6 +8,7 @@ use pages::PageOffset;
 use pages::Side;
 ghost use mathlib.Core.Path.{_≡_};
 ghost use Rattle.flash.specs.Flash.{Outcome, numberIn, programmed};
+ghost use Rattle.steps.specs.declared.Step.the-variants.{Image};
 ghost use Rattle.steps.specs.Steps.{Tried, marked, imaged, tried};
 
 // A flash step and the side whose page it is made on. A mark is named by its page offset, an image
@@ -50,6 +51,25 @@ fn program_mark(page: &mut [u8], at: PageOffset, value: u16) -> Programmed
     flash::program(page, at.0 as usize, value)
 }
 
+// Programs an image cell of the page of a side: the step that a save makes most, apart from the others.
+pub fn make_image(
+    side: Side,
+    at: ImageOffset,
+    value: u16,
+    left: &mut [u8],
+    right: &mut [u8],
+) -> Programmed
+    ensures { λ r.
+        ⌜ _≡_ {A = Tried}
+        (record { number = numberIn r; left = now (left .exit); right = now (right .exit) })
+        (tried (Image side at value) (now (left .entry)) (now (right .entry))) ⌝ }
+{
+    match side {
+        Side::Left => program_cell(left, at, value),
+        Side::Right => program_cell(right, at, value),
+    }
+}
+
 // Makes a step on the pages, or leaves both as they were where it doesn't fit.
 pub fn make(step: Step, left: &mut [u8], right: &mut [u8]) -> Programmed
     ensures { λ r.
@@ -62,10 +82,7 @@ pub fn make(step: Step, left: &mut [u8], right: &mut [u8]) -> Programmed
             Side::Left => program_mark(left, at, value),
             Side::Right => program_mark(right, at, value),
         },
-        Step::Image(side, at, value) => match side {
-            Side::Left => program_cell(left, at, value),
-            Side::Right => program_cell(right, at, value),
-        },
+        Step::Image(side, at, value) => make_image(side, at, value, left, right),
         Step::Erase(side) => match side {
             Side::Left => {
                 flash::erase(left);

@@ -1,14 +1,12 @@
 -- Laws of the list of a walk with right numbers: what stands at its place, and how long it is.
 -- Not here: the list of a request (the crate plans). Assumes nothing.
-use Prim.Native.Nat.{ℕ, _-_, _%_, _<_}
+use Prim.Native.Nat.{ℕ, _-_, _%_, _/_, _<_}
 use mathlib.Core.Path.{_≡_, sym, ap, _∙_}
 use mathlib.Core.Bool.{false}
 use mathlib.Core.List.{List}
 use native.Mathlib.Omega.{arith}
 use lib.ListN.{length, getD}
 use Rattle.flash.specs.Flash.{cellAt}
-use Rattle.pages.specs.declared.Side.{Side}
-use Rattle.pages.specs.declared.State.{State}
 use Rattle.pages.specs.declared.Live.{Live}
 use Rattle.pages.specs.declared.ImageOffset.{ImageOffset}
 use Rattle.pages.specs.Pages.{liveOf}
@@ -18,9 +16,10 @@ use Rattle.plans.specs.declared.Entry.{Entry}
 use Rattle.plans.specs.declared.Spot.{Spot}
 use Rattle.plans.specs.declared.Spot.the-variants.{Cell}
 use Rattle.plans.specs.Plans.{entry, target, clean, nothing}
-use Rattle.plans.specs.Counts.{stepCount}
-use Rattle.plans.specs.Spots.{spotOf}
-use Rattle.plans.proofs.Spots.{spotEntry, spot-entry, spot-sound}
+use Rattle.plans.specs.declared.InCells as I
+use Rattle.plans.specs.Counts.{cellCount, stepCount}
+use Rattle.plans.specs.Spots.{spotOf, cellIn}
+use Rattle.plans.proofs.Spots.{spotEntry, spot-entry, spot-sound, cell-found}
 use Rattle.walks.specs.declared.Walk.{Walk}
 use Rattle.walks.specs.Walks.{newImage, stepsOf, wrongNumbers}
 use Rattle.walks.proofs.Sizes.{new-length, steps-length}
@@ -65,14 +64,24 @@ walk-spot w l r d x e h f =
     ap (λ (s : Spot). spotEntry s (imageFor w l r d)) f
     ∙ spot-entry (w .request) (w .start) (w .erased) (imageFor w l r d) (w .page) (w .place) (n .1) (n .0) h
 
-pub walk-cell : (w : Walk) (l r d : List ℕ) (state : State) (s : Side) (live : Live) (at : ImageOffset)
-    → wrongNumbers w (length l) (length r) (length d) ≡ false → w .place < totalOf w
-    → Cell state s live at ≡ spotOf (w .request) (w .start) (w .erased) (w .page) (w .place)
+-- an image cell that was found there: its place in the image, and that it is the list's entry
+pub cell-place : (w : Walk) (at : ImageOffset)
+    → I.the-variants.At at ≡ cellIn (spotOf (w .request) (w .start) (w .erased) (w .page) (w .place))
+    → (at .0 % 2 ≡ 0) × (at .0 / 2 < cellCount (w .page))
+cell-place w at e =
+    let f = cell-found (w .request) (w .start) (w .erased) (w .page) (w .place) at e in
+    let x = spot-sound (w .request) (w .start) (w .erased) (w .page) (w .place) _ (f .0) (f .1) in
+    (x .3, x .4)
+
+pub walk-cell : (w : Walk) (l r d : List ℕ) (live : Live) (at : ImageOffset)
+    → wrongNumbers w (length l) (length r) (length d) ≡ false → live ≡ liveOf (w .start)
+    → I.the-variants.At at ≡ cellIn (spotOf (w .request) (w .start) (w .erased) (w .page) (w .place))
     → cellEntry live l r d (w .offset .0) at ≡ getD (stepsOf w l r d) (w .place) nothing
-walk-cell w l r d state s live at e h f =
-    let x = spot-sound (w .request) (w .start) (w .erased) (w .page) (w .place) (Cell state s live at) h f in
+walk-cell w l r d live at e v h =
+    let f = cell-found (w .request) (w .start) (w .erased) (w .page) (w .place) at h in
     let p = right-page w (length l) (length r) (length d) e in
     (λ i.
-    entry (sym (x .0) i)
-    (Image (sym (x .1) i) at (cellAt (newImage (x .2 i) (p i) (w .offset .0) d (liveImage l r)) (at .0))))
-    ∙ walk-spot w l r d (Cell state s live at) e h f
+    entry (clean (v i))
+    (Image (target (v i)) at (cellAt (newImage (v i) (p i) (w .offset .0) d (liveImage l r)) (at .0))))
+    ∙ walk-spot w l r d (Cell (clean (liveOf (w .start))) (target (liveOf (w .start))) (liveOf (w .start)) at) e (f .0)
+    (f .1)

@@ -3,7 +3,7 @@
 -- Not here: which entry stands at a place (Laws.antt); wrong numbers (Numbers.antt). Assumes nothing.
 use Prim.Native.Nat.{ℕ, _+_, _-_, _%_, _<_}
 use mathlib.Core.Path.{_≡_, refl, sym, ap, ap₂, _∙_}
-use mathlib.Core.Bool.{Bool, true, false}
+use mathlib.Core.Bool.{true, false}
 use mathlib.Core.List.{List}
 use mathlib.Core.Option.{Option}
 use native.Mathlib.Omega.{arith}
@@ -15,7 +15,6 @@ use Rattle.flash.specs.Flash.{cellAt, numberIn}
 use Rattle.flash.proofs.Laws.{told}
 use Rattle.pages.specs.declared.Side.{Side}
 use Rattle.pages.specs.declared.Side.the-variants.{Left, Right}
-use Rattle.pages.specs.declared.State.{State}
 use Rattle.pages.specs.declared.Live.{Live}
 use Rattle.pages.specs.declared.Live.the-variants.{Nowhere, On}
 use Rattle.pages.specs.declared.PageOffset.{PageOffset}
@@ -102,10 +101,6 @@ cell-value (On Left) l r d o i h e k =
 cell-value (On Right) l r d o i h e k =
     let n : length (imageOf r) ≡ length r - 4 = length-drop 4 r in
     new-cell-at (imageOf r) (o - 4) d i (omega (arith, h)) (h .evenLength) e (omega (arith, h)) (omega (arith, h))
-
-pub met : (live : Live) (l r : List ℕ) (s : State) (t u : Bool) → s ≡ clean live
-    → t ≡ meets s (statusOf l r .state) → t ≡ u → meets (clean live) (statusOf l r .state) ≡ u
-met live l r s t u e h q = sym (ap (λ (x : State). meets x (statusOf l r .state)) e) ∙ sym h ∙ q
 
 pub cell-made : (live : Live) (l r d : List ℕ) (o : PageOffset) (at inside : ImageOffset) (old : List ℕ) (v : ℕ)
     (side : Side) (t : Tried) → Legal (length l) (length r) (o .0) (length d) → at .0 % 2 ≡ 0 → at .0 + 5 < length l

@@ -16,11 +16,11 @@ use pages::PageOffset;
 use pages::Side;
 use pages::State;
 use plans::Entry;
+use plans::InCells;
 use plans::Request;
 use plans::Spot;
 use requests::Check;
 use requests::Refusal;
-use steps::Step;
 ghost use Prim.Native.Nat.{_+_, _%_, _<_, _≤_};
 ghost use mathlib.Core.Bool.{false};
 ghost use mathlib.Core.Path.{_≡_};
@@ -139,8 +139,6 @@ fn old_image<'a>(live: Live, left: &'a [u8], right: &'a [u8]) -> &'a [u8]
 // An image cell, tried on the pages. Where they are at its line, the page that is live is the one
 // that the new image is made from. The offset lies in the image, so `Management` isn't met.
 fn try_cell(
-    state: State,
-    side: Side,
     live: Live,
     at: ImageOffset,
     offset: PageOffset,
@@ -150,9 +148,7 @@ fn try_cell(
 ) -> Programmed
     requires { ⌜ Legal (length (now left)) (length (now right)) (offset .0) (length (now «data»))
         × (at .0 % 2 ≡ 0)
-        × (at .0 + 5 < length (now left))
-        × (state ≡ clean live)
-        × (side ≡ target live) ⌝ }
+        × (at .0 + 5 < length (now left)) ⌝ }
     ensures { λ r.
         ⌜ _≡_ {A = Tried}
         (record { number = numberIn r; left = now (left .exit); right = now (right .exit) })
@@ -164,20 +160,21 @@ fn try_cell(
         (now (left .entry))
         (now (right .entry))) ⌝ }
 {
-    if !lines::is_at(left, right, state) {
+    if !lines::is_clean(left, right, live) {
         return Programmed::Unfit;
     }
     match offset.to_image() {
         InImage::Management => Programmed::Unfit,
         InImage::At(inside) => {
             let value = images::new_cell(old_image(live, left, right), inside, data, at);
-            steps::make(Step::Image(side, at, value), left, right)
+            let side = plans::target_side(live);
+            steps::make_image(side, at, value, left, right)
         }
     }
 }
 
 // The entry at the walk's place, tried on the pages. Its place lies in the list, so `Beyond` isn't
-// met.
+// met; image cells are asked for first, so that they take no turn through an entry.
 fn try_step(walk: Walk, left: &mut [u8], right: &mut [u8], data: &[u8]) -> Programmed
     requires { ⌜ (wrongNumbers walk (length (now left)) (length (now right)) (length (now «data»))
         ≡ false)
@@ -194,12 +191,18 @@ fn try_step(walk: Walk, left: &mut [u8], right: &mut [u8], data: &[u8]) -> Progr
     let request = walk.request;
     let start = walk.start;
     let offset = walk.offset;
-    match plans::spot_at(request, start, walk.erased, walk.page, walk.place) {
-        Spot::Fixed(x) => try_entry(x, left, right),
-        Spot::Cell(state, side, live, at) => {
-            try_cell(state, side, live, at, offset, data, left, right)
+    match plans::cell_at(request, start, walk.erased, walk.page, walk.place) {
+        InCells::At(at) => {
+            let live = plans::live_of(start);
+            try_cell(live, at, offset, data, left, right)
         }
-        Spot::Beyond => Programmed::Unfit,
+        InCells::Outside => {
+            match plans::spot_at(request, start, walk.erased, walk.page, walk.place) {
+                Spot::Fixed(x) => try_entry(x, left, right),
+                Spot::Cell(_, _, _, _) => Programmed::Unfit,
+                Spot::Beyond => Programmed::Unfit,
+            }
+        }
     }
 }
 

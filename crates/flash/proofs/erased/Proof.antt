@@ -9,7 +9,7 @@ use lib.Dec.{eqb}
 use lib.ListN.{length, drop, getD}
 use borrow.Author.Needs.{needs}
 use Rattle.flash.specs.Flash.{isErased}
-use Rattle.flash.proofs.Laws.{fold-step, folded}
+use Rattle.flash.proofs.Laws.{none-erased, first-used, fold-step, folded}
 use Rattle.flash.proofs.erased.Statement.{statement}
 use Rattle.flash.proofs.erased.Tie as tie
 
@@ -19,6 +19,15 @@ Inv-loop page n all₀ i₀ all i =
 
 abbrev μ-loop : tie.MeasureT-loop
 μ-loop page n all₀ i₀ all i = n - i
+
+returns : tie.Need-returns Inv-loop μ-loop
+returns c = none-erased _ (c .if1 .taken)
+
+shared-slice-read-if2 : tie.Need-shared-slice-read-if2 Inv-loop μ-loop
+shared-slice-read-if2 c = search needs
+
+returns-2 : tie.Need-returns-2 Inv-loop μ-loop
+returns-2 c = first-used _ (c .before .before .if1 .left) (c .if2 .taken)
 
 loop-holds : tie.Need-loop-holds Inv-loop μ-loop
 loop-holds c = (search needs, (search needs, refl))
@@ -34,20 +43,31 @@ loop-less c = search needs
 
 loop-again : tie.Need-loop-again Inv-loop μ-loop
 loop-again c =
-    let l = c .before .before .before .args .page .now in
+    let l = c .before .before .before .before .before .before .args .page .now in
     let i = c .before .before .loop .i in
     let inv = c .before .before .loop .inv in (
       search needs,
       (
         omega (arith, and-le-l (c .before .before .loop .all) (getD l i 0)),
-        fold-step l i _ (search needs) (inv .1 .0) (omega (arith, c .shared-slice-known .given i)) (inv .1 .1),
+        fold-step l i _ (search needs) (inv .1 .0) (omega (arith, c .shared-slice-known2 .given i)) (inv .1 .1),
       ),
     )
 
-returns : tie.Need-returns Inv-loop μ-loop
-returns c = folded _ (c .before .loop .i) (c .before .loop .all) (search needs) (c .before .loop .inv .1 .1)
+returns-3 : tie.Need-returns-3 Inv-loop μ-loop
+returns-3 c = folded _ (c .before .loop .i) (c .before .loop .all) (search needs) (c .before .loop .inv .1 .1)
 
 pub erased-spec : {M : Type 1} → statement M
 erased-spec =
     tie.close
-    (tie.spec Inv-loop μ-loop loop-holds shared-slice-read-all add-i loop-less loop-again returns)
+    (tie.spec
+    Inv-loop
+    μ-loop
+    returns
+    shared-slice-read-if2
+    returns-2
+    loop-holds
+    shared-slice-read-all
+    add-i
+    loop-less
+    loop-again
+    returns-3)

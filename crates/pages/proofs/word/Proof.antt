@@ -1,43 +1,44 @@
--- `pages::word` meets its contract: the four bytes are those of the page. Assumes nothing.
-use mathlib.Core.Path.{_∙_}
+-- `pages::word` meets its contract: the four bytes are those of the page, read one by one where it is shorter.
+-- Assumes nothing.
 use Rattle.pages.specs.Pages.{wordOf}
 use borrow.Author.Needs.{needs}
 use Rattle.pages.proofs.word.Statement.{statement}
 use Rattle.pages.proofs.word.Tie as tie
 
-byte-at-requires : tie.Need-byte-at-requires
-byte-at-requires c κs = search needs
+short-word-requires : tie.Need-short-word-requires
+short-word-requires c κs = search needs
 
-byte-at-requires-2 : tie.Need-byte-at-requires-2
-byte-at-requires-2 c κs = search needs
+returns : tie.Need-returns
+returns c = search needs
 
-byte-at-requires-3 : tie.Need-byte-at-requires-3
-byte-at-requires-3 c κs = search needs
+shared-slice-read-joined : tie.Need-shared-slice-read-joined
+shared-slice-read-joined c = search needs
 
-byte-at-requires-4 : tie.Need-byte-at-requires-4
-byte-at-requires-4 c κs = search needs
+shared-slice-read-joined-2 : tie.Need-shared-slice-read-joined-2
+shared-slice-read-joined-2 c = search needs
+
+shared-slice-read-joined-3 : tie.Need-shared-slice-read-joined-3
+shared-slice-read-joined-3 c = search needs
+
+shared-slice-read-joined-4 : tie.Need-shared-slice-read-joined-4
+shared-slice-read-joined-4 c = search needs
 
 joined-requires : tie.Need-joined-requires
 joined-requires c κs = search needs
 
-returns : tie.Need-returns
+returns-2 : tie.Need-returns-2
 unfolding wordOf
-returns c =
-    c .joined .ensures
-    ∙ simp (
-      c .before .before .before .before .byte-at .ensures,
-      c .before .before .before .byte-at2 .ensures,
-      c .before .before .byte-at3 .ensures,
-      c .before .byte-at4 .ensures,
-    )
+returns-2 c = c .joined .ensures
 
 pub word-spec : {M : Type 1} → statement M
 word-spec =
     tie.close
     (tie.spec
-    byte-at-requires
-    byte-at-requires-2
-    byte-at-requires-3
-    byte-at-requires-4
+    short-word-requires
+    returns
+    shared-slice-read-joined
+    shared-slice-read-joined-2
+    shared-slice-read-joined-3
+    shared-slice-read-joined-4
     joined-requires
-    returns)
+    returns-2)

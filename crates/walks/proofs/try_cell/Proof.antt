@@ -5,13 +5,13 @@ use native.Mathlib.Omega.{arith}
 use borrow.Author.Tests.{not-true, not-false}
 use Rattle.pages.proofs.Laws.{management-below}
 use Rattle.walks.proofs.Laws.{cellEntry}
-use Rattle.walks.proofs.Tries.{try-unmet, met, cell-made}
+use Rattle.walks.proofs.Tries.{try-unmet, cell-made}
 use borrow.Author.Needs.{needs}
 use Rattle.walks.proofs.try_cell.Statement.{statement}
 use Rattle.walks.proofs.try_cell.Tie as tie
 
-is-at-requires : tie.Need-is-at-requires
-is-at-requires c κs = search needs
+is-clean-requires : tie.Need-is-clean-requires
+is-clean-requires c κs = search needs
 
 same-length : tie.Need-same-length
 same-length c = search needs
@@ -22,11 +22,9 @@ same-length-2 c = search needs
 returns : tie.Need-returns
 returns c =
     let at = c .before in
-    let start = at .before .before .before .before .before .before in
-    let a = start .args in
+    let a = at .before .before .before .before .before .before .args in
     try-unmet (cellEntry (a .live) (a .left .now) (a .right .now) (a .«data» .now) (a .offset .0) (a .at)) _ _
-    (met (a .live) (a .left .now) (a .right .now) _ _ _ (start .pre .3)
-    (at .is-at .ensures) (not-true (at .is-at .result) (c .if1 .taken)))
+    (sym (at .is-clean .ensures) ∙ not-true (at .is-clean .result) (c .if1 .taken))
 
 to-image-requires : tie.Need-to-image-requires
 to-image-requires c κs = search needs
@@ -43,8 +41,11 @@ old-image-requires c κs = search needs
 new-cell-requires : tie.Need-new-cell-requires
 new-cell-requires c κs = search needs
 
-make-requires : tie.Need-make-requires
-make-requires c κs = search needs
+target-side-requires : tie.Need-target-side-requires
+target-side-requires c κs = search needs
+
+make-image-requires : tie.Need-make-image-requires
+make-image-requires c κs = search needs
 
 same-length-3 : tie.Need-same-length-3
 same-length-3 c = search needs
@@ -67,7 +68,8 @@ same-length-6 c = search needs
 returns-3 : tie.Need-returns-3
 returns-3 c =
     let made = c .before .before .before .before in
-    let cell = made .before .before .before in
+    let side = made .before .before .before in
+    let cell = side .before in
     let old = cell .before in
     let inside = old .before .before .before .before in
     let image = inside .before .before in
@@ -76,18 +78,17 @@ returns-3 c =
     let start = at .before .before .before .before .before .before in
     let a = start .args in
     cell-made (a .live) (a .left .now) (a .right .now) (a .«data» .now) (a .offset) (a .at)
-    (inside .inside .given .0 .0) _ (cell .new-cell .result) (a .side) _
+    (inside .inside .given .0 .0) _ (cell .new-cell .result) (side .target-side .result) _
     (start .pre .0) (start .pre .1) (start .pre .2)
-    (met (a .live) (a .left .now) (a .right .now) _ _ _ (start .pre .3) (at .is-at .ensures)
-    (not-false (at .is-at .result) (test .if1 .left)))
+    (sym (at .is-clean .ensures) ∙ not-false (at .is-clean .result) (test .if1 .left))
     (sym (image .to-image .ensures) ∙ inside .inside .given .1)
-    (old .old-image .ensures) (cell .new-cell .ensures) (start .pre .4) (made .make .ensures)
+    (old .old-image .ensures) (cell .new-cell .ensures) (side .target-side .ensures) (made .make-image .ensures)
 
 pub try-cell-spec : {M : Type 1} → statement M
 try-cell-spec =
     tie.close
     (tie.spec
-    is-at-requires
+    is-clean-requires
     same-length
     same-length-2
     returns
@@ -96,7 +97,8 @@ try-cell-spec =
     enum-known-inside
     old-image-requires
     new-cell-requires
-    make-requires
+    target-side-requires
+    make-image-requires
     same-length-3
     same-length-4
     returns-2

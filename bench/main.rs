@@ -1,0 +1,94 @@
+//! The benchmark: the proved library beside plain Rust (plain.rs) and plain C (plain.c), in one run.
+//!
+//! All three are called through the same signatures, by pointers that the compiler can't see through,
+//! on the same buffers. First they are held to the same answers and the same page bytes. Then each row
+//! is measured in rounds, the three one after another in every round, and the least time of all
+//! rounds counts. Every buffer has been used before: all times are with warm caches.
+//!
+//! Its arguments: the size of the machine code of the exported library, in bytes; then, if wanted,
+//! `quick` for fewer rounds, which measures badly, or `check` to compare the answers and stop.
+
+mod calls;
+mod plain;
+mod rows;
+mod same;
+mod stack;
+
+use calls::Library;
+use rows::{Row, Timed};
+
+const PAGES: [usize; 3] = [64, 512, 4096];
+
+fn main() {
+    let arguments: Vec<String> = std::env::args().skip(1).collect();
+    let rounds = if arguments.iter().any(|word| word == "quick") { 5 } else { 400 };
+    let libraries = calls::libraries();
+
+    match same::compare(&libraries) {
+        Ok(count) => println!("benchmark: the three answer alike, pages too: {count} comparisons"),
+        Err(difference) => {
+            println!("benchmark: the three DIFFER: {difference}");
+            std::process::exit(1);
+        }
+    }
+
+    if arguments.iter().any(|word| word == "check") {
+        return;
+    }
+    println!("\nNanoseconds, least of {rounds} runs, warm caches; the ratio is to the faster of the two\n");
+    println!("| What | P | library | plain Rust | plain C | ratio | bar | |");
+    println!("|---|---|---|---|---|---|---|---|");
+    let mut missed = 0;
+    for row in rows::rows(&PAGES) {
+        missed += print(&row, &measured(&row, &libraries, rounds));
+    }
+    println!();
+    print_sizes(arguments.iter().find_map(|word| word.parse().ok()));
+    println!();
+    match missed {
+        0 => println!("benchmark: every bar is met"),
+        n => println!("benchmark: bars missed: {n}"),
+    }
+}
+
+/// The least time of a call for each library, in nanoseconds.
+fn measured(row: &Row, libraries: &[Library; 3], rounds: usize) -> [f64; 3] {
+    let mut least = [f64::INFINITY; 3];
+    let mut timed: Vec<Timed> = libraries.iter().map(|library| Timed::new(row, *library)).collect();
+    for _ in 0..rounds {
+        for (best, run) in least.iter_mut().zip(&mut timed) {
+            *best = best.min(run.nanoseconds());
+        }
+    }
+    least
+}
+
+/// Prints a row; gives 1 where its bar is missed.
+fn print(row: &Row, [library, rust, c]: &[f64; 3]) -> u32 {
+    let ratio = library / rust.min(*c);
+    let (bar, verdict) = match row.bar {
+        None => (String::new(), ""),
+        Some(bar) if ratio <= bar => (format!("{bar:.1}"), "met"),
+        Some(bar) => (format!("{bar:.1}"), "MISSED"),
+    };
+    if row.alone {
+        println!("| {} | {} | | {rust:.1} | | | | |", row.what, row.p);
+    } else {
+        println!(
+            "| {} | {} | {library:.1} | {rust:.1} | {c:.1} | {ratio:.2} | {bar} | {verdict} |",
+            row.what, row.p
+        );
+    }
+    (verdict == "MISSED") as u32
+}
+
+fn print_sizes(text: Option<usize>) {
+    println!("| Size | bytes |");
+    println!("|---|---|");
+    if let Some(bytes) = text {
+        println!("| machine code of the exported library, .text | {bytes} |");
+    }
+    for (what, bytes) in stack::depths() {
+        println!("| {what} | {bytes} |");
+    }
+}

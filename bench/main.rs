@@ -21,7 +21,7 @@ const PAGES: [usize; 3] = [64, 512, 4096];
 
 fn main() {
     let arguments: Vec<String> = std::env::args().skip(1).collect();
-    let rounds = if arguments.iter().any(|word| word == "quick") { 5 } else { 400 };
+    let rounds = if arguments.iter().any(|word| word == "quick") { 5 } else { 1000 };
     let libraries = calls::libraries();
 
     match same::compare(&libraries) {

@@ -5,8 +5,8 @@ use crate::plain::{ENDED, MADE};
 use std::hint::black_box;
 use std::time::Instant;
 
-/// How many calls a run makes, about: enough that reading the clock doesn't count.
-const NANOSECONDS_A_RUN: f64 = 30_000.0;
+/// How long a run lasts at least: enough that reading the clock doesn't count.
+const NANOSECONDS_A_RUN: u128 = 30_000;
 
 /// The settings of the drive: what the whole save saves.
 const DATA: [u8; 42] = [0x5A; 42];
@@ -125,21 +125,26 @@ impl Timed {
             out: vec![0; row.p],
             calls: 1,
         };
-        while timed.calls < 100_000 && timed.nanoseconds() * (timed.calls as f64) < NANOSECONDS_A_RUN {
+        while timed.run().1 < NANOSECONDS_A_RUN {
             timed.calls *= 2;
         }
         timed
     }
 
-    /// The time of a call in one run.
+    /// The time of a call, or of a step, in one run.
     pub fn nanoseconds(&mut self) -> f64 {
-        let clock = Instant::now();
-        let units = self.run();
-        clock.elapsed().as_nanos() as f64 / units as f64
+        let (units, time) = self.run();
+        time as f64 / units as f64
     }
 
-    /// Makes the calls of a run; gives how many units of work they were.
-    fn run(&mut self) -> usize {
+    /// Makes the calls of a run; gives how many units of work they were, and how long they took.
+    fn run(&mut self) -> (usize, u128) {
+        let clock = Instant::now();
+        let units = self.make_calls();
+        (units, clock.elapsed().as_nanos())
+    }
+
+    fn make_calls(&mut self) -> usize {
         let calls = self.calls;
         match self.job {
             Job::Part => self.repeat(|t| t.library.part(&t.left, &t.right, OFFSET, 42)),

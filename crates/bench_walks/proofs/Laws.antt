@@ -102,34 +102,31 @@ stop n k w l r d l′ r′ s p h e q f =
     ∙ on-step (2053 - (n + 1)) n w l r d (outcome s l′ r′) e
     ∙ ap (λ (m : ℕ). walkedOn m n w l r d) (sym (next n h))
 
-pub ends : (n : ℕ) (v w : Walk) (l r d l′ r′ : List ℕ) (s : S.Stepped) (c : ℕ) → n < 2053 → v ≡ w
-    → outcome s l′ r′ ≡ stepOf v l r d → c ≡ codeOf (s .progress) → c ≡ 1
+pub ends : (n : ℕ) (w : Walk) (l r d l′ r′ : List ℕ) (s : S.Stepped) (c : ℕ) → n < 2053
+    → outcome s l′ r′ ≡ stepOf w l r d → c ≡ codeOf (s .progress) → c ≡ 1
     → _≡_ {A = Walked} (record { number = 0; steps = n; left = l′; right = r′ }) (left-to-do n w l r d)
-ends n v w l r d l′ r′ s c h q e f g =
-    stop n 0 v l r d l′ r′ s Ended h e (code-ended (s .progress) (sym f ∙ g)) (λ most. refl)
-    ∙ ap (λ (u : Walk). left-to-do n u l r d) q
+ends n w l r d l′ r′ s c h e f g =
+    stop n 0 w l r d l′ r′ s Ended h e (code-ended (s .progress) (sym f ∙ g)) (λ most. refl)
 
-pub breaks : (n : ℕ) (v w : Walk) (l r d l′ r′ : List ℕ) (s : S.Stepped) (c : ℕ) → n < 2053 → v ≡ w
-    → outcome s l′ r′ ≡ stepOf v l r d → c ≡ codeOf (s .progress) → c ≡ 6
+pub breaks : (n : ℕ) (w : Walk) (l r d l′ r′ : List ℕ) (s : S.Stepped) (c : ℕ) → n < 2053
+    → outcome s l′ r′ ≡ stepOf w l r d → c ≡ codeOf (s .progress) → c ≡ 6
     → _≡_ {A = Walked} (record { number = 6; steps = n; left = l′; right = r′ }) (left-to-do n w l r d)
-breaks n v w l r d l′ r′ s c h q e f g =
-    stop n 6 v l r d l′ r′ s Unfit h e (code-unfit (s .progress) (sym f ∙ g)) (λ most. refl)
-    ∙ ap (λ (u : Walk). left-to-do n u l r d) q
+breaks n w l r d l′ r′ s c h e f g =
+    stop n 6 w l r d l′ r′ s Unfit h e (code-unfit (s .progress) (sym f ∙ g)) (λ most. refl)
 
 -- a step that is made leaves the rest of the walk, at the place that it handed back
-pub goes-on : (n : ℕ) (w v : Walk) (place : ℕ) (l r d l′ r′ : List ℕ) (s : S.Stepped) (c : ℕ) → n < 2053
-    → v ≡ atPlace w place → outcome s l′ r′ ≡ stepOf v l r d → c ≡ codeOf (s .progress) → (c ≡ 1 → ⊥) → (c ≡ 6 → ⊥)
+pub goes-on : (n : ℕ) (w : Walk) (place : ℕ) (l r d l′ r′ : List ℕ) (s : S.Stepped) (c : ℕ) → n < 2053
+    → outcome s l′ r′ ≡ stepOf (atPlace w place) l r d → c ≡ codeOf (s .progress) → (c ≡ 1 → ⊥) → (c ≡ 6 → ⊥)
     → left-to-do (n + 1) (atPlace w (s .walk .place)) l′ r′ d ≡ left-to-do n (atPlace w place) l r d
-goes-on n w v place l r d l′ r′ s c h q e f g k =
+goes-on n w place l r d l′ r′ s c h e f g k =
     let m : s .progress ≡ Made = code-made (s .progress) (λ z. g (f ∙ z)) (λ z. k (f ∙ z)) in
-    let x : s .walk ≡ atPlace v (s .walk .place) = subst (Moved v) (sym e) (step-moved v l r d) in
-    let y : s .walk ≡ atPlace w (s .walk .place) = x ∙ ap (λ (u : Walk). atPlace u (s .walk .place)) q in
+    let y : s .walk ≡ atPlace w (s .walk .place) =
+    subst (Moved (atPlace w place)) (sym e) (step-moved (atPlace w place) l r d) in
     ap (λ (u : Walk). walkedOn (2053 - (n + 1)) (n + 1) u l′ r′ d) (sym y)
     ∙ ap (λ (z : Progress). bySaid (saidIn z) (walkedOn (2053 - (n + 1)) (n + 1) (s .walk) l′ r′ d)
     (stopped 0 n (outcome s l′ r′)) (λ k. stopped k n (outcome s l′ r′))) (sym m)
-    ∙ on-step (2053 - (n + 1)) n v l r d (outcome s l′ r′) e
-    ∙ ap (λ (m : ℕ). walkedOn m n v l r d) (sym (next n h))
-    ∙ ap (λ (u : Walk). left-to-do n u l r d) q
+    ∙ on-step (2053 - (n + 1)) n (atPlace w place) l r d (outcome s l′ r′) e
+    ∙ ap (λ (m : ℕ). walkedOn m n (atPlace w place) l r d) (sym (next n h))
 
 -- and where no step is left to be allowed, the answer is 6
 pub spent : (n : ℕ) (w : Walk) (l r d : List ℕ) → 2053 ≤ n

@@ -10,7 +10,7 @@ use walks::Progress;
 use walks::Walk;
 ghost use mathlib.Core.Path.{_≡_};
 ghost use Rattle.walks.specs.Walks.{beginningIn};
-ghost use Rattle.bench_walks.specs.Whole.{codeOf, atPlace, Walked, walkedOn, beginEither, walked};
+ghost use Rattle.bench_walks.specs.Whole.{codeOf, Walked, walkedOn, beginEither, walked};
 
 // More steps than any walk makes: (P - 4) / 2 + 6 at P = 4,096, and one to be told the end.
 const MOST_STEPS: u32 = 2053;
@@ -38,15 +38,9 @@ fn code_of(progress: Progress) -> u32
     }
 }
 
-fn at_place(walk: Walk, place: u32) -> Walk
-    ensures { λ r. ⌜ r ≡ atPlace walk place ⌝ }
-{
-    let mut moved = walk;
-    moved.place = place;
-    moved
-}
-
-// Steps a walk to its end. Only its place moves, so only that is carried from step to step.
+// Steps a walk to its end. Only its place moves, so only that is carried from step to step. The walk
+// is put together from its fields: copied whole, it would be loaded in one piece right after its
+// small fields were stored, for which the processor waits.
 fn walk_on(walk: Walk, left: &mut [u8], right: &mut [u8], data: &[u8]) -> Whole
     ensures { λ r.
         ⌜ _≡_ {A = Walked}
@@ -61,10 +55,22 @@ fn walk_on(walk: Walk, left: &mut [u8], right: &mut [u8], data: &[u8]) -> Whole
         (now (right .entry))
         (now («data» .entry))) ⌝ }
 {
+    let request = walk.request;
+    let start = walk.start;
+    let offset = walk.offset;
     let mut place = walk.place;
     let mut made: u32 = 0;
     while made < MOST_STEPS {
-        let stepped = at_place(walk, place).step(left, right, data);
+        let here = Walk {
+            request: request,
+            start: start,
+            erased: walk.erased,
+            page: walk.page,
+            offset: offset,
+            len: walk.len,
+            place: place,
+        };
+        let stepped = here.step(left, right, data);
         let progress = stepped.progress;
         let code = code_of(progress);
         if code == 1 {

@@ -11,20 +11,17 @@ use Rattle.bench_walks.proofs.walk_on.Statement.{statement}
 use Rattle.bench_walks.proofs.walk_on.Tie as tie
 
 abbrev Inv-loop : tie.InvT-loop
-Inv-loop walk left₀ right₀ «data» place₀ made₀ left right place made =
+Inv-loop walk left₀ right₀ «data» request start offset place₀ made₀ left right place made =
     (made ≤ 2053)
     × (length left ≡ length left₀)
     × (length right ≡ length right₀)
     × (left-to-do made (atPlace walk place) left right «data» ≡ left-to-do 0 walk left₀ right₀ «data»)
 
 abbrev μ-loop : tie.MeasureT-loop
-μ-loop walk left₀ right₀ «data» place₀ made₀ left right place made = 2053 - made
+μ-loop walk left₀ right₀ «data» request start offset place₀ made₀ left right place made = 2053 - made
 
 loop-holds : tie.Need-loop-holds Inv-loop μ-loop
 loop-holds c = (omega arith, refl, refl, refl)
-
-at-place-requires : tie.Need-at-place-requires Inv-loop μ-loop
-at-place-requires c κs = search needs
 
 step-requires : tie.Need-step-requires Inv-loop μ-loop
 step-requires c κs = search needs
@@ -33,39 +30,37 @@ code-of-requires : tie.Need-code-of-requires Inv-loop μ-loop
 code-of-requires c κs = search needs
 
 same-length : tie.Need-same-length Inv-loop μ-loop
-same-length c = c .before .before .before .before .before .before .step .kept .1 .0 ∙ c .before .before .before .before .before .before .before .before .before .before .before .loop .inv .1
+same-length c = c .before .before .before .before .before .before .step .kept .1 .0 ∙ c .before .before .before .before .before .before .before .before .before .before .loop .inv .1
 
 same-length-2 : tie.Need-same-length-2 Inv-loop μ-loop
-same-length-2 c = c .before .before .before .before .before .before .step .kept .1 .1 .0 ∙ c .before .before .before .before .before .before .before .before .before .before .before .loop .inv .2
+same-length-2 c = c .before .before .before .before .before .before .step .kept .1 .1 .0 ∙ c .before .before .before .before .before .before .before .before .before .before .loop .inv .2
 
 returns : tie.Need-returns Inv-loop μ-loop
 returns c =
     let code = c .before in
     let step = code .before .before .before .before .before in
-    let at = step .before .before .before in
-    let loop = at .before .before in
-    let a = loop .before .before .before .before .args in
-    ends (loop .loop .made) (at .at-place .result) (atPlace (a .walk) (loop .loop .place)) (loop .loop .left)
-    (loop .loop .right) (a .«data» .now) _ _ (step .step .result) (code .code-of .result) (omega arith)
-    (at .at-place .ensures) (step .step .ensures) (code .code-of .ensures) (c .if1 .taken)
+    let loop = step .before .before .before .before in
+    let a = loop .before .before .before .before .before .args in
+    let here = atPlace (a .walk) (loop .loop .place) in
+    ends (loop .loop .made) here (loop .loop .left) (loop .loop .right) (a .«data» .now) _ _ (step .step .result)
+    (code .code-of .result) (omega arith) (step .step .ensures) (code .code-of .ensures) (c .if1 .taken)
     ∙ loop .loop .inv .3
 
 same-length-3 : tie.Need-same-length-3 Inv-loop μ-loop
-same-length-3 c = c .before .before .before .before .before .before .before .step .kept .1 .0 ∙ c .before .before .before .before .before .before .before .before .before .before .before .before .loop .inv .1
+same-length-3 c = c .before .before .before .before .before .before .before .step .kept .1 .0 ∙ c .before .before .before .before .before .before .before .before .before .before .before .loop .inv .1
 
 same-length-4 : tie.Need-same-length-4 Inv-loop μ-loop
-same-length-4 c = c .before .before .before .before .before .before .before .step .kept .1 .1 .0 ∙ c .before .before .before .before .before .before .before .before .before .before .before .before .loop .inv .2
+same-length-4 c = c .before .before .before .before .before .before .before .step .kept .1 .1 .0 ∙ c .before .before .before .before .before .before .before .before .before .before .before .loop .inv .2
 
 returns-2 : tie.Need-returns-2 Inv-loop μ-loop
 returns-2 c =
     let code = c .before .before in
     let step = code .before .before .before .before .before in
-    let at = step .before .before .before in
-    let loop = at .before .before in
-    let a = loop .before .before .before .before .args in
-    breaks (loop .loop .made) (at .at-place .result) (atPlace (a .walk) (loop .loop .place)) (loop .loop .left)
-    (loop .loop .right) (a .«data» .now) _ _ (step .step .result) (code .code-of .result) (omega arith)
-    (at .at-place .ensures) (step .step .ensures) (code .code-of .ensures) (c .if2 .taken)
+    let loop = step .before .before .before .before in
+    let a = loop .before .before .before .before .before .args in
+    let here = atPlace (a .walk) (loop .loop .place) in
+    breaks (loop .loop .made) here (loop .loop .left) (loop .loop .right) (a .«data» .now) _ _ (step .step .result)
+    (code .code-of .result) (omega arith) (step .step .ensures) (code .code-of .ensures) (c .if2 .taken)
     ∙ loop .loop .inv .3
 
 add-made : tie.Need-add-made Inv-loop μ-loop
@@ -78,15 +73,14 @@ loop-again : tie.Need-loop-again Inv-loop μ-loop
 loop-again c =
     let code = c .before .before .before in
     let step = code .before .before .before .before .before in
-    let at = step .before .before .before in
-    let loop = at .before .before in
-    let a = loop .before .before .before .before .args in (
+    let loop = step .before .before .before .before in
+    let a = loop .before .before .before .before .before .args in (
       omega arith,
       step .step .kept .1 .0 ∙ loop .loop .inv .1,
       step .step .kept .1 .1 .0 ∙ loop .loop .inv .2,
-      goes-on (loop .loop .made) (a .walk) (at .at-place .result) (loop .loop .place) (loop .loop .left)
-          (loop .loop .right) (a .«data» .now) _ _ (step .step .result) (code .code-of .result) (omega arith)
-          (at .at-place .ensures) (step .step .ensures) (code .code-of .ensures) (c .before .before .if1 .left)
+      goes-on (loop .loop .made) (a .walk) (loop .loop .place) (loop .loop .left) (loop .loop .right)
+          (a .«data» .now) _ _ (step .step .result) (code .code-of .result) (omega arith)
+          (step .step .ensures) (code .code-of .ensures) (c .before .before .if1 .left)
           (c .before .if2 .left)
           ∙ loop .loop .inv .3,
     )
@@ -100,7 +94,7 @@ same-length-6 c = c .before .loop .inv .2
 returns-3 : tie.Need-returns-3 Inv-loop μ-loop
 returns-3 c =
     let loop = c .before in
-    let a = loop .before .before .before .before .args in
+    let a = loop .before .before .before .before .before .args in
     spent (loop .loop .made) (atPlace (a .walk) (loop .loop .place)) (loop .loop .left) (loop .loop .right)
     (a .«data» .now) (omega arith)
     ∙ loop .loop .inv .3
@@ -112,7 +106,6 @@ walk-on-spec =
     Inv-loop
     μ-loop
     loop-holds
-    at-place-requires
     step-requires
     code-of-requires
     same-length

@@ -3,6 +3,7 @@
 use crate::calls::Library;
 use crate::plain::{ENDED, MADE};
 use std::hint::black_box;
+use std::ops::{Deref, DerefMut};
 use std::time::Instant;
 
 /// How long a run lasts at least: enough that reading the clock doesn't count.
@@ -98,14 +99,46 @@ fn rows_at(p: usize) -> Vec<Row> {
     ]
 }
 
+/// Bytes that begin at a given place of a memory page: the same for all three, so that none meets
+/// cache lines otherwise than the others.
+struct Placed {
+    bytes: Vec<u8>,
+    start: usize,
+}
+
+const MEMORY_PAGE: usize = 4096;
+
+impl Placed {
+    fn new(content: &[u8], place: usize) -> Placed {
+        let mut bytes = vec![0; content.len() + 2 * MEMORY_PAGE];
+        let start = MEMORY_PAGE - bytes.as_ptr() as usize % MEMORY_PAGE + place;
+        bytes[start..start + content.len()].copy_from_slice(content);
+        bytes.truncate(start + content.len());
+        Placed { bytes, start }
+    }
+}
+
+impl Deref for Placed {
+    type Target = [u8];
+    fn deref(&self) -> &[u8] {
+        &self.bytes[self.start..]
+    }
+}
+
+impl DerefMut for Placed {
+    fn deref_mut(&mut self) -> &mut [u8] {
+        &mut self.bytes[self.start..]
+    }
+}
+
 /// A row measured for one library, on pages of its own.
 pub struct Timed {
     library: Library,
     job: Job,
     words: [u32; 2],
-    left: Vec<u8>,
-    right: Vec<u8>,
-    out: Vec<u8>,
+    left: Placed,
+    right: Placed,
+    out: Placed,
     calls: usize,
 }
 
@@ -120,9 +153,9 @@ impl Timed {
             library,
             job: row.job,
             words: [row.pages.left, row.pages.right],
-            left: page(row.p, row.pages.left),
-            right,
-            out: vec![0; row.p],
+            left: Placed::new(&page(row.p, row.pages.left), 0),
+            right: Placed::new(&right, 512),
+            out: Placed::new(&vec![0; row.p], 1024),
             calls: 1,
         };
         while timed.run().1 < NANOSECONDS_A_RUN {

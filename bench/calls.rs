@@ -11,8 +11,9 @@ type BeginFn =
 type StepFn = unsafe extern "C" fn(
     u32, bool, u32, u32, u32, *mut u32, *mut u8, usize, *mut u8, usize, *const u8, usize,
 ) -> u32;
-pub type WalkFn =
-    unsafe extern "C" fn(bool, *mut u8, usize, *mut u8, usize, u32, *const u8, usize) -> Whole;
+type SaveFn =
+    unsafe extern "C" fn(*mut u8, usize, *mut u8, usize, u32, *const u8, usize) -> Whole;
+type FormatFn = unsafe extern "C" fn(*mut u8, usize, *mut u8, usize) -> Whole;
 
 /// A save that is walked: what its caller and its beginning know of it.
 #[derive(Clone, Copy)]
@@ -35,9 +36,9 @@ pub type ReplayFn = unsafe extern "C" fn(
     *mut u8, usize, *mut u8, usize, *const u8, usize, *mut u8, usize,
 ) -> Report;
 
-/// Declares the six calls of a version that is linked.
+/// Declares the seven calls of a version that is linked.
 macro_rules! linked {
-    ($erased:ident $part:ident $copy:ident $begin:ident $step:ident $walk:ident) => {
+    ($erased:ident $part:ident $copy:ident $begin:ident $step:ident $save:ident $format:ident) => {
         unsafe extern "C" {
             fn $erased(page: *const u8, p: usize) -> bool;
             fn $part(
@@ -55,16 +56,17 @@ macro_rules! linked {
                 line: u32, erased: bool, page: u32, offset: u32, kept: u32, place: *mut u32,
                 left: *mut u8, p: usize, right: *mut u8, q: usize, data: *const u8, n: usize,
             ) -> u32;
-            fn $walk(
-                format: bool, left: *mut u8, p: usize, right: *mut u8, q: usize, offset: u32,
-                data: *const u8, n: usize,
+            fn $save(
+                left: *mut u8, p: usize, right: *mut u8, q: usize, offset: u32, data: *const u8,
+                n: usize,
             ) -> Whole;
+            fn $format(left: *mut u8, p: usize, right: *mut u8, q: usize) -> Whole;
         }
     };
 }
 
-linked! { bench_erased bench_part bench_copy bench_begin bench_step bench_walk }
-linked! { c_erased c_part c_copy c_begin c_step c_walk }
+linked! { bench_erased bench_part bench_copy bench_begin bench_step bench_save bench_format }
+linked! { c_erased c_part c_copy c_begin c_step c_save c_format }
 
 unsafe extern "C" {
     fn fretgalaxy_replay(
@@ -82,7 +84,8 @@ pub struct Library {
     copy: CopyFn,
     begin: BeginFn,
     step: StepFn,
-    pub walk: WalkFn,
+    save: SaveFn,
+    format: FormatFn,
 }
 
 // SAFETY, for all methods: each pointer comes from a slice with its own length, and slices that are
@@ -125,13 +128,28 @@ impl Library {
 
     pub fn save(&self, left: &mut [u8], right: &mut [u8], offset: u32, data: &[u8]) -> Whole {
         let (l, p, r, q) = (left.as_mut_ptr(), left.len(), right.as_mut_ptr(), right.len());
-        unsafe { (self.walk)(false, l, p, r, q, offset, data.as_ptr(), data.len()) }
+        unsafe { (self.save)(l, p, r, q, offset, data.as_ptr(), data.len()) }
     }
 
     pub fn format(&self, left: &mut [u8], right: &mut [u8]) -> Whole {
         let (l, p, r, q) = (left.as_mut_ptr(), left.len(), right.as_mut_ptr(), right.len());
-        unsafe { (self.walk)(true, l, p, r, q, 0, [].as_ptr(), 0) }
+        unsafe { (self.format)(l, p, r, q) }
     }
+
+    /// This version with whole walks that do nothing: what the calls alone need.
+    pub fn idle(self) -> Library {
+        Library { save: no_save, format: no_format, ..self }
+    }
+}
+
+unsafe extern "C" fn no_save(
+    _: *mut u8, _: usize, _: *mut u8, _: usize, _: u32, _: *const u8, _: usize,
+) -> Whole {
+    Whole::default()
+}
+
+unsafe extern "C" fn no_format(_: *mut u8, _: usize, _: *mut u8, _: usize) -> Whole {
+    Whole::default()
 }
 
 /// The proved library, plain Rust, plain C.
@@ -144,7 +162,8 @@ pub fn libraries() -> [Library; 3] {
             copy: bench_copy,
             begin: bench_begin,
             step: bench_step,
-            walk: bench_walk,
+            save: bench_save,
+            format: bench_format,
         },
         Library {
             name: "plain Rust",
@@ -153,7 +172,8 @@ pub fn libraries() -> [Library; 3] {
             copy: plain::rust_copy,
             begin: plain::rust_begin,
             step: plain::rust_step,
-            walk: plain::rust_walk,
+            save: plain::rust_save,
+            format: plain::rust_format,
         },
         Library {
             name: "plain C",
@@ -162,7 +182,8 @@ pub fn libraries() -> [Library; 3] {
             copy: c_copy,
             begin: c_begin,
             step: c_step,
-            walk: c_walk,
+            save: c_save,
+            format: c_format,
         },
     ])
 }

@@ -426,19 +426,32 @@ uint32_t c_step(uint32_t line, bool erased, uint32_t page, uint32_t offset, uint
     return answer;
 }
 
-struct whole c_walk(bool format, uint8_t *left, size_t p, uint8_t *right, size_t q, uint32_t offset,
-                    const uint8_t *data, size_t length)
+/* Steps a walk to its end, unless its beginning was refused with a number. */
+static struct whole walk_on(uint32_t number, struct walk *walk, uint8_t *left, size_t p,
+                            uint8_t *right, size_t q, const uint8_t *data, size_t length)
 {
-    struct walk walk;
-    uint32_t number =
-        begin(format ? FORMAT : SAVE, left, p, right, q, offset, length, &walk);
     if (number != 0)
         return (struct whole){.number = number};
     for (;;) {
-        uint32_t answer = step(&walk, left, p, right, q, data, length);
+        uint32_t answer = step(walk, left, p, right, q, data, length);
         if (answer == ENDED)
-            return (struct whole){.steps = walk.place};
+            return (struct whole){.steps = walk->place};
         if (answer == UNFIT)
-            return (struct whole){.number = UNFIT, .steps = walk.place};
+            return (struct whole){.number = UNFIT, .steps = walk->place};
     }
+}
+
+struct whole c_save(uint8_t *left, size_t p, uint8_t *right, size_t q, uint32_t offset,
+                    const uint8_t *data, size_t length)
+{
+    struct walk walk;
+    uint32_t number = begin(SAVE, left, p, right, q, offset, length, &walk);
+    return walk_on(number, &walk, left, p, right, q, data, length);
+}
+
+struct whole c_format(uint8_t *left, size_t p, uint8_t *right, size_t q)
+{
+    struct walk walk;
+    uint32_t number = begin(FORMAT, left, p, right, q, 0, 0, &walk);
+    return walk_on(number, &walk, left, p, right, q, NULL, 0);
 }

@@ -1,6 +1,6 @@
-/* What the benchmark calls, under three names: bench_ (the proved library: crates/bench and
- * crates/bench_walks), c_ (plain.c) and rust_ (plain.rs). All take the same arguments and give the
- * same answers. A slice of the library's is a pointer and a length. */
+/* What the benchmark calls, under three names: bench_ (the proved library: crates/bench,
+ * crates/bench_saves and crates/bench_formats), c_ (plain.c) and rust_ (plain.rs). All take the same
+ * arguments and give the same answers. A slice of the library's is a pointer and a length. */
 #ifndef PLAIN_H
 #define PLAIN_H
 

@@ -459,11 +459,14 @@ fn walk_on(
     }
 }
 
-pub unsafe extern "C" fn rust_walk(
-    format: bool, left: *mut u8, p: usize, right: *mut u8, q: usize, offset: u32, data: *const u8,
-    length: usize,
+pub unsafe extern "C" fn rust_save(
+    left: *mut u8, p: usize, right: *mut u8, q: usize, offset: u32, data: *const u8, length: usize,
 ) -> Whole {
     let (left, right, data) = unsafe { (lent_mut(left, p), lent_mut(right, q), lent(data, length)) };
-    let kind = if format { FORMAT } else { SAVE };
-    walk_on(begin(kind, left, right, offset, data.len()), left, right, data)
+    walk_on(begin(SAVE, left, right, offset, data.len()), left, right, data)
+}
+
+pub unsafe extern "C" fn rust_format(left: *mut u8, p: usize, right: *mut u8, q: usize) -> Whole {
+    let (left, right) = unsafe { (lent_mut(left, p), lent_mut(right, q)) };
+    walk_on(begin(FORMAT, left, right, 0, 0), left, right, &[])
 }

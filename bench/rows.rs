@@ -28,6 +28,7 @@ enum Job {
     Erased,
     PageCopy,
     PageSet,
+    BothSet,
 }
 
 pub struct Row {
@@ -72,7 +73,7 @@ fn rows_at(p: usize) -> Vec<Row> {
         what: what.into(),
         p,
         bar,
-        alone: matches!(job, Job::PageCopy | Job::PageSet),
+        alone: matches!(job, Job::PageCopy | Job::PageSet | Job::BothSet),
         job,
         pages,
     };
@@ -96,6 +97,7 @@ fn rows_at(p: usize) -> Vec<Row> {
         row("erased test, first byte used", Job::Erased, line_3, None),
         row("memcpy of a page", Job::PageCopy, line_3, None),
         row("memset of a page", Job::PageSet, line_3, None),
+        row("memset of both pages, as a format has to", Job::BothSet, line_3, None),
     ]
 }
 
@@ -191,6 +193,10 @@ impl Timed {
             Job::Step => return (0..calls).map(|_| self.walk()).sum(),
             Job::PageCopy => self.repeat(|t| t.out.copy_from_slice(&t.left)),
             Job::PageSet => self.repeat(|t| t.out.fill(0xFF)),
+            Job::BothSet => self.repeat(|t| {
+                t.left.fill(0xFF);
+                t.right.fill(0xFF);
+            }),
         }
         calls
     }

@@ -1,7 +1,7 @@
 //! How deep the stack gets in a call: it is made on a stack of its own that was painted before, and
 //! the lowest byte that lost its paint is looked for.
 
-use crate::calls::{libraries, replay, ReplayFn, Report, WalkFn};
+use crate::calls::{libraries, replay, Library, ReplayFn, Report};
 use crate::plain::Whole;
 use crate::rows::{page, ACTIVE, DEAD};
 use std::arch::asm;
@@ -24,8 +24,8 @@ pub fn depths() -> Vec<(String, usize)> {
         ("stack of a format replayed".into(), replayed(&format)),
         ("stack of a read replayed, of a part".into(), replayed(&read)),
         ("stack of a read replayed, into an output".into(), replayed(&read_into)),
-        ("stack of a whole save by one call".into(), walked(library.walk, false, &[0x5A; 42])),
-        ("stack of a whole format by one call".into(), walked(library.walk, true, &[])),
+        ("stack of a whole save by one call".into(), walked(library, save_settings)),
+        ("stack of a whole format by one call".into(), walked(library, Library::format)),
     ]
 }
 
@@ -55,15 +55,17 @@ fn replayed(script: &[u8]) -> usize {
     used - empty + 8
 }
 
-fn walked(walk: WalkFn, format: bool, data: &[u8]) -> usize {
+fn save_settings(library: &Library, left: &mut [u8], right: &mut [u8]) -> Whole {
+    library.save(left, right, 6, &[0x5A; 42])
+}
+
+fn walked(library: Library, walk: fn(&Library, &mut [u8], &mut [u8]) -> Whole) -> usize {
     let mut whole = Whole { number: 9, steps: 0 };
-    let mut depth = |f: WalkFn| {
+    let mut depth = |l: Library| {
         let (mut left, mut right) = (page(P, ACTIVE), page(P, DEAD));
-        let (l, r) = (left.as_mut_ptr(), right.as_mut_ptr());
-        // SAFETY: the three buffers are apart, each with its own length.
-        measured(|| unsafe { whole = f(format, l, P, r, P, 6, data.as_ptr(), data.len()) })
+        measured(|| whole = walk(&l, &mut left, &mut right))
     };
-    let (empty, used) = (depth(black_box(no_walk)), depth(walk));
+    let (empty, used) = (depth(black_box(library.idle())), depth(library));
     assert_eq!(whole.number, 0, "the walk is refused");
     used - empty + 8
 }
@@ -72,12 +74,6 @@ unsafe extern "C" fn no_replay(
     _: *mut u8, _: usize, _: *mut u8, _: usize, _: *const u8, _: usize, _: *mut u8, _: usize,
 ) -> Report {
     Report { status: 0, place: 0 }
-}
-
-unsafe extern "C" fn no_walk(
-    _: bool, _: *mut u8, _: usize, _: *mut u8, _: usize, _: u32, _: *const u8, _: usize,
-) -> Whole {
-    Whole::default()
 }
 
 /// The bytes of stack that a call of the function takes, with the frame that calls it.

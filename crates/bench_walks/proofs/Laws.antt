@@ -19,7 +19,6 @@ use Rattle.walks.specs.declared.Progress.{Progress}
 use Rattle.walks.specs.declared.Progress.the-variants.{Made, Ended, Unfit}
 use Rattle.walks.specs.declared.Stepped as S
 use Rattle.walks.specs.Walks.{
-  Beginning,
   beginningIn,
   Outcome,
   saidIn,
@@ -30,7 +29,7 @@ use Rattle.walks.specs.Walks.{
   stepped,
   stepOf,
 }
-use Rattle.bench_walks.specs.Whole.{codeOf, atPlace, Walked, stopped, bySaid, walkedOn, walked}
+use Rattle.bench_walks.specs.Whole.{atPlace, Walked, stopped, bySaid, walkedOn, walked}
 
 -- ---- a step moves only the place
 abbrev Moved : Walk → Outcome → Type 0
@@ -73,21 +72,6 @@ left-to-do n w l r d = walkedOn (2053 - n) n w l r d
 next : (n : ℕ) → n < 2053 → 2053 - n ≡ suc (2053 - (n + 1))
 next n h = omega arith
 
-code-made : (p : Progress) → (codeOf p ≡ 1 → ⊥) → (codeOf p ≡ 6 → ⊥) → p ≡ Made
-code-made Made h k = refl
-code-made Ended h k = absurd (h refl)
-code-made Unfit h k = absurd (k refl)
-
-code-ended : (p : Progress) → codeOf p ≡ 1 → p ≡ Ended
-code-ended Made h = absurd (omega (arith, h))
-code-ended Ended h = refl
-code-ended Unfit h = absurd (omega (arith, h))
-
-code-unfit : (p : Progress) → codeOf p ≡ 6 → p ≡ Unfit
-code-unfit Made h = absurd (omega (arith, h))
-code-unfit Ended h = absurd (omega (arith, h))
-code-unfit Unfit h = refl
-
 -- what a step that isn't made leaves is the whole walk's answer
 stop : (n k : ℕ) (w : Walk) (l r d l′ r′ : List ℕ) (s : S.Stepped) (p : Progress) → n < 2053
     → outcome s l′ r′ ≡ stepOf w l r d → s .progress ≡ p
@@ -102,29 +86,26 @@ stop n k w l r d l′ r′ s p h e q f =
     ∙ on-step (2053 - (n + 1)) n w l r d (outcome s l′ r′) e
     ∙ ap (λ (m : ℕ). walkedOn m n w l r d) (sym (next n h))
 
-pub ends : (n : ℕ) (w : Walk) (l r d l′ r′ : List ℕ) (s : S.Stepped) (c : ℕ) → n < 2053
-    → outcome s l′ r′ ≡ stepOf w l r d → c ≡ codeOf (s .progress) → c ≡ 1
+pub ends : (n : ℕ) (w : Walk) (l r d l′ r′ : List ℕ) (s : S.Stepped) → n < 2053
+    → outcome s l′ r′ ≡ stepOf w l r d → s .progress ≡ Ended
     → _≡_ {A = Walked} (record { number = 0; steps = n; left = l′; right = r′ }) (left-to-do n w l r d)
-ends n w l r d l′ r′ s c h e f g =
-    stop n 0 w l r d l′ r′ s Ended h e (code-ended (s .progress) (sym f ∙ g)) (λ most. refl)
+ends n w l r d l′ r′ s h e p = stop n 0 w l r d l′ r′ s Ended h e p (λ most. refl)
 
-pub breaks : (n : ℕ) (w : Walk) (l r d l′ r′ : List ℕ) (s : S.Stepped) (c : ℕ) → n < 2053
-    → outcome s l′ r′ ≡ stepOf w l r d → c ≡ codeOf (s .progress) → c ≡ 6
+pub breaks : (n : ℕ) (w : Walk) (l r d l′ r′ : List ℕ) (s : S.Stepped) → n < 2053
+    → outcome s l′ r′ ≡ stepOf w l r d → s .progress ≡ Unfit
     → _≡_ {A = Walked} (record { number = 6; steps = n; left = l′; right = r′ }) (left-to-do n w l r d)
-breaks n w l r d l′ r′ s c h e f g =
-    stop n 6 w l r d l′ r′ s Unfit h e (code-unfit (s .progress) (sym f ∙ g)) (λ most. refl)
+breaks n w l r d l′ r′ s h e p = stop n 6 w l r d l′ r′ s Unfit h e p (λ most. refl)
 
 -- a step that is made leaves the rest of the walk, at the place that it handed back
-pub goes-on : (n : ℕ) (w : Walk) (place : ℕ) (l r d l′ r′ : List ℕ) (s : S.Stepped) (c : ℕ) → n < 2053
-    → outcome s l′ r′ ≡ stepOf (atPlace w place) l r d → c ≡ codeOf (s .progress) → (c ≡ 1 → ⊥) → (c ≡ 6 → ⊥)
+pub goes-on : (n : ℕ) (w : Walk) (place : ℕ) (l r d l′ r′ : List ℕ) (s : S.Stepped) → n < 2053
+    → outcome s l′ r′ ≡ stepOf (atPlace w place) l r d → s .progress ≡ Made
     → left-to-do (n + 1) (atPlace w (s .walk .place)) l′ r′ d ≡ left-to-do n (atPlace w place) l r d
-goes-on n w place l r d l′ r′ s c h e f g k =
-    let m : s .progress ≡ Made = code-made (s .progress) (λ z. g (f ∙ z)) (λ z. k (f ∙ z)) in
+goes-on n w place l r d l′ r′ s h e p =
     let y : s .walk ≡ atPlace w (s .walk .place) =
     subst (Moved (atPlace w place)) (sym e) (step-moved (atPlace w place) l r d) in
     ap (λ (u : Walk). walkedOn (2053 - (n + 1)) (n + 1) u l′ r′ d) (sym y)
     ∙ ap (λ (z : Progress). bySaid (saidIn z) (walkedOn (2053 - (n + 1)) (n + 1) (s .walk) l′ r′ d)
-    (stopped 0 n (outcome s l′ r′)) (λ k. stopped k n (outcome s l′ r′))) (sym m)
+    (stopped 0 n (outcome s l′ r′)) (λ k. stopped k n (outcome s l′ r′))) (sym p)
     ∙ on-step (2053 - (n + 1)) n (atPlace w place) l r d (outcome s l′ r′) e
     ∙ ap (λ (m : ℕ). walkedOn m n (atPlace w place) l r d) (sym (next n h))
 
@@ -137,21 +118,13 @@ spent n w l r d h =
     ap (λ (m : ℕ). walkedOn m n w l r d) z
 
 -- ---- beginnings
-pub walked-begun : (b : Begun) (w : Walk) (o : Beginning) (l r d : List ℕ) (x : Walked) → beginningIn b ≡ o
-    → b ≡ B.the-variants.On w → x ≡ walkedOn 2053 0 w l r d → x ≡ walked o l r d
-walked-begun b w o l r d x f e h =
-    h ∙ ap (λ (y : Begun). walked (beginningIn y) l r d) (sym e) ∙ ap (λ (y : Beginning). walked y l r d) f
+pub walked-begun : (b : Begun) (w : Walk) (l r d : List ℕ) (x : Walked) → b ≡ B.the-variants.On w
+    → x ≡ walkedOn 2053 0 w l r d → x ≡ walked (beginningIn b) l r d
+walked-begun b w l r d x e h = h ∙ ap (λ (y : Begun). walked (beginningIn y) l r d) (sym e)
 
-pub walked-refused : (b : Begun) (why : Refusal) (o : Beginning) (l r d : List ℕ) (k : ℕ) → beginningIn b ≡ o
-    → b ≡ B.the-variants.Refused why → k ≡ numberOf why
-    → _≡_ {A = Walked} (record { number = k; steps = 0; left = l; right = r }) (walked o l r d)
-walked-refused b why o l r d k f e h =
+pub walked-refused : (b : Begun) (why : Refusal) (l r d : List ℕ) (k : ℕ) → b ≡ B.the-variants.Refused why
+    → k ≡ numberOf why
+    → _≡_ {A = Walked} (record { number = k; steps = 0; left = l; right = r }) (walked (beginningIn b) l r d)
+walked-refused b why l r d k e h =
     (λ i. record { number = h i; steps = 0; left = l; right = r })
     ∙ ap (λ (y : Begun). walked (beginningIn y) l r d) (sym e)
-    ∙ ap (λ (y : Beginning). walked y l r d) f
-
-pub begin-format : (t : Bool) (x a b : Beginning) → t ≡ true → x ≡ a → x ≡ cond t a b
-begin-format t x a b e h = h ∙ sym (simp e)
-
-pub begin-save : (t : Bool) (x a b : Beginning) → t ≡ false → x ≡ b → x ≡ cond t a b
-begin-save t x a b e h = h ∙ sym (simp e)

@@ -1,19 +1,10 @@
--- A whole walk by one call: begun, and stepped until a step isn't made.
+-- A whole walk: stepped from its beginning until a step isn't made.
 -- Assumes nothing.
 use Prim.Native.Nat.{ℕ, zero, suc, _+_}
-use mathlib.Core.Bool.{Bool, cond}
 use mathlib.Core.List.{List}
 use Rattle.walks.specs.declared.Walk.{Walk}
-use Rattle.walks.specs.declared.Progress as P
-use Rattle.walks.specs.declared.Progress.{Progress}
 use Rattle.walks.specs.Walks as W
-use Rattle.walks.specs.Walks.{Beginning, beginSave, beginFormat, Said, stepOf}
-
--- 0: made, 1: ended, 6: the step doesn't fit
-abbrev pub codeOf : Progress → ℕ
-codeOf P.the-variants.Made = 0
-codeOf P.the-variants.Ended = 1
-codeOf P.the-variants.Unfit = 6
+use Rattle.walks.specs.Walks.{Beginning, Said, stepOf}
 
 -- a walk at another place of its list
 abbrev pub atPlace : Walk → ℕ → Walk
@@ -50,10 +41,6 @@ walkedOn zero n w l r d = record { number = 6; steps = n; left = l; right = r }
 walkedOn (suc most) n w l r d =
     let o = stepOf w l r d in
     bySaid (o .said) (walkedOn most (n + 1) (o .walk) (o .left) (o .right) d) (stopped 0 n o) (λ k. stopped k n o)
-
--- the beginning of a format, or of a save
-abbrev pub beginEither : Bool → List ℕ → List ℕ → ℕ → List ℕ → Beginning
-beginEither format l r o d = cond format (beginFormat l r) (beginSave l r (record { 0 = o }) d)
 
 -- a walk that is begun, stepped to its end; a refused one changes nothing
 abbrev pub walked : Beginning → List ℕ → List ℕ → List ℕ → Walked

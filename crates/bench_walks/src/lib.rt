@@ -1,16 +1,14 @@
-// Whole walks by one call, for the benchmark: a save or a format, begun and stepped to its end.
-// bench/plain.h has the same signatures; bench/run builds and measures.
+// Whole walks, for the benchmark: what is begun, stepped to its end. The crates bench_saves and
+// bench_formats each have one call of it, so that each part of it stands in one place of their
+// compiled code and is made part of the loop.
 //
-// One function walks both, so each part of it stands in one place of the compiled code and is made
-// part of the loop.
 // What each answer means is in specs/Whole.antt.
-use pages::PageOffset;
 use walks::Begun;
 use walks::Progress;
 use walks::Walk;
 ghost use mathlib.Core.Path.{_≡_};
 ghost use Rattle.walks.specs.Walks.{beginningIn};
-ghost use Rattle.bench_walks.specs.Whole.{codeOf, Walked, walkedOn, beginEither, walked};
+ghost use Rattle.bench_walks.specs.Whole.{Walked, walkedOn, walked};
 
 // More steps than any walk makes: (P - 4) / 2 + 6 at P = 4,096, and one to be told the end.
 const MOST_STEPS: u32 = 2053;
@@ -20,22 +18,6 @@ const MOST_STEPS: u32 = 2053;
 pub struct Whole {
     pub number: u32,
     pub steps: u32,
-}
-
-fn wide(x: u8) -> u32
-    ensures { λ r. ⌜ r ≡ x ⌝ }
-{
-    x as u32
-}
-
-fn code_of(progress: Progress) -> u32
-    ensures { λ r. ⌜ r ≡ codeOf progress ⌝ }
-{
-    match progress {
-        Progress::Made => 0,
-        Progress::Ended => 1,
-        Progress::Unfit => 6,
-    }
 }
 
 // Steps a walk to its end. Only its place moves, so only that is carried from step to step. The walk
@@ -72,22 +54,25 @@ fn walk_on(walk: Walk, left: &mut [u8], right: &mut [u8], data: &[u8]) -> Whole
         };
         let stepped = here.step(left, right, data);
         let progress = stepped.progress;
-        let code = code_of(progress);
-        if code == 1 {
-            return Whole {
-                number: 0,
-                steps: made,
-            };
+        match progress {
+            Progress::Ended => {
+                return Whole {
+                    number: 0,
+                    steps: made,
+                };
+            }
+            Progress::Unfit => {
+                return Whole {
+                    number: 6,
+                    steps: made,
+                };
+            }
+            Progress::Made => {
+                let next = stepped.walk;
+                place = next.place;
+                made += 1;
+            }
         }
-        if code == 6 {
-            return Whole {
-                number: 6,
-                steps: made,
-            };
-        }
-        let next = stepped.walk;
-        place = next.place;
-        made += 1;
     }
     Whole {
         number: 6,
@@ -95,27 +80,8 @@ fn walk_on(walk: Walk, left: &mut [u8], right: &mut [u8], data: &[u8]) -> Whole
     }
 }
 
-// Begins a save, or a format, which has no offset and no data of its own.
-fn begin(format: bool, left: &[u8], right: &[u8], offset: u32, data: &[u8]) -> Begun
-    ensures { λ r.
-        ⌜ beginningIn r
-        ≡ beginEither format (now (left .entry)) (now (right .entry)) offset (now («data» .entry)) ⌝ }
-{
-    if format {
-        return Walk::format(left, right);
-    }
-    Walk::save(left, right, PageOffset(offset), data)
-}
-
-// A whole save of the data at a page offset, or a whole format, whose data is empty.
-#[no_mangle]
-pub extern "C" fn bench_walk(
-    format: bool,
-    left: &mut [u8],
-    right: &mut [u8],
-    offset: u32,
-    data: &[u8],
-) -> Whole
+// Steps what is begun to its end; a refused request has its number and changes nothing.
+pub fn walk(begun: Begun, left: &mut [u8], right: &mut [u8], data: &[u8]) -> Whole
     ensures { λ r.
         ⌜ _≡_ {A = Walked}
         (record {
@@ -124,18 +90,18 @@ pub extern "C" fn bench_walk(
           left = now (left .exit);
           right = now (right .exit);
         })
-        (walked
-        (beginEither format (now (left .entry)) (now (right .entry)) offset (now («data» .entry)))
+        (walked (beginningIn begun)
         (now (left .entry))
         (now (right .entry))
         (now («data» .entry))) ⌝ }
 {
-    match begin(format, left, right, offset, data) {
+    match begun {
         Begun::On(walk) => walk_on(walk, left, right, data),
         Begun::Refused(why) => {
-            let number = wide(why.number());
+            let number = why.number();
+            let wide = number as u32;
             Whole {
-                number: number,
+                number: wide,
                 steps: 0,
             }
         }

@@ -1,11 +1,12 @@
 -- Laws of lines: whether the pages are at a line, by the two words of its row.
 -- Not here: the table (pages.proofs.Table). Assumes nothing.
-use Prim.Native.Nat.{ℕ}
+use Prim.Native.Nat.{ℕ, _<_}
 use mathlib.Core.Path.{_≡_, refl, sym, ap, _∙_}
 use mathlib.Core.Bool.{Bool, true, false, _&&_}
 use mathlib.Core.List.{List}
 use native.Mathlib.Omega.{arith}
 use lib.Dec.{eqb}
+use lib.ListN.{length, getD, List·getD-eq-default}
 use borrow.Author.Tests.{eqb-true, eqb-false, eq-eqb, ne-eqb}
 use Rattle.pages.specs.declared.Side.{Side}
 use Rattle.pages.specs.declared.Side.the-variants.{Left, Right}
@@ -14,7 +15,7 @@ use Rattle.pages.specs.declared.Live.the-variants.{Nowhere, On}
 use Rattle.pages.specs.declared.State.the-variants.{S0}
 use Rattle.pages.specs.declared.State.{State}
 use Rattle.pages.specs.Pages.{wordOf, statusOf, lineOf, rowOf}
-use Rattle.pages.proofs.Table.{words-of, state-of}
+use Rattle.pages.proofs.Table.{words-of, state-of, spare-none}
 use Rattle.plans.specs.Plans.{clean, meets}
 use Rattle.plans.proofs.Laws.{line-same}
 
@@ -23,6 +24,16 @@ meets-same wanted s e = line-same s wanted (sym (eqb-true (lineOf wanted) (lineO
 
 same-meets : (wanted s : State) → s ≡ wanted → meets wanted s ≡ true
 same-meets wanted s e = eq-eqb (lineOf wanted) (lineOf s) (ap lineOf (sym e))
+
+-- no row has a RIGHT whose Spare isn't FF, or is missing
+pub spare-meets : (l r : List ℕ) → getD r 0 0 < 256 → getD r 1 0 < 256 → getD r 2 0 < 256 → getD r 3 0 < 255
+    → true ≡ meets S0 (statusOf l r .state)
+spare-meets l r a b c d = sym (same-meets S0 (statusOf l r .state) (spare-none l r a b c d))
+
+pub no-spare : (r : List ℕ) → length r < 4 → getD r 3 0 < 255
+no-spare r h =
+    let e : getD r 3 0 ≡ 0 = List·getD-eq-default r 0 (omega (arith, h)) in
+    omega (arith, e)
 
 -- the pages are at a line or not, from the look-up where it is line 0
 pub at-none : (wanted s : State) → lineOf wanted ≡ 0 → eqb (lineOf s) 0 ≡ meets wanted s

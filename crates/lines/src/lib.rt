@@ -127,10 +127,18 @@ fn has_words(left: &[u8], right: &[u8], state: State) -> bool
     pages::word(right) == right_word(state)
 }
 
-// Whether the pages are at line 0: no row has their words.
+// Whether the pages are at line 0: no row has their words. Every row's RIGHT has Spare FF, so that
+// one byte is asked first: where a step has just programmed it, the whole word would have to be
+// waited for.
 fn is_none(left: &[u8], right: &[u8]) -> bool
     ensures { λ r. ⌜ r ≡ meets S0 (statusOf (now (left .entry)) (now (right .entry)) .state) ⌝ }
 {
+    if right.len() < 4 {
+        return true;
+    }
+    if right[3] != 255 {
+        return true;
+    }
     let state = pages::status_of(left, right).state;
     state.line() == 0
 }

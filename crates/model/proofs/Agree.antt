@@ -166,7 +166,7 @@ same-read b k o n a =
     ∙ where-none (readBook k o n) C.bytes (C.number (readBook k o n)) (readPart (b .left) (b .right) o n)
     (askedBytes (k .image) o n) (same-part b k o n a)
 
-same-output : (b : Board) (k : Book) (o : ℕ) (out : List ℕ) → Agree b k
+pub same-output : (b : Board) (k : Book) (o : ℕ) (out : List ℕ) → Agree b k
     → C.output (filled (b .left) (b .right) o out .number) (filled (b .left) (b .right) o out .bytes)
     ≡ C.output (readBook k o (length out))
     (outputAfter (readBook k o (length out)) (askedBytes (k .image) o (length out)) out)

@@ -31,7 +31,7 @@ use Rattle.walks.specs.Walks as W
 use Rattle.walks.specs.Walks.{newImage, stepsOf, firstWalk, beginSave, advanced, stepOf, wrongNumbers}
 use Rattle.plans.specs.declared.Request.the-variants.{Save}
 use Rattle.requests.proofs.Laws.{legal}
-use Rattle.reads.specs.Reads.{readPart}
+use Rattle.reads.specs.Reads.{readPart, outputAfter}
 use Rattle.images.proofs.Overlay.{data-back}
 use Rattle.plans.proofs.Counts.{bound}
 use Rattle.plans.proofs.Good.{Good}
@@ -80,6 +80,7 @@ use Rattle.model.proofs.Agree.{
   based,
   same-part,
   same-read,
+  same-output,
   begun-save,
   unchanged,
   step-made,
@@ -273,6 +274,24 @@ committed-read l r calls o n e bl br bc =
     ∙ ap₂
     (λ (p : ℕ) (i : Option (List ℕ)). partRead (requestNumber p p o n (B.imageNumber i)) (B.askedBytes i o n))
     (f .0) (f .1)
+
+-- and a copy of it
+pub committed-copy : (l r : List ℕ) (calls : List Call) (o : ℕ) (out : List ℕ) → pagesNumber (length l) (length r) ≡ 0
+    → Bytes l → Bytes r → ByteCalls calls
+    → let i = effects (length l) (liveImage l r) (committed (opened l r) (hearing (powered l r) calls)) in
+    let n = requestNumber (length l) (length l) o (length out) (B.imageNumber i) in
+    turn (boardAfter (powered l r) calls) (C.readInto o out) .answer
+    ≡ C.output n (outputAfter n (B.askedBytes i o (length out)) out)
+unfolding turn
+committed-copy l r calls o out e bl br bc =
+    let b = boardAfter (powered l r) calls in
+    let k = bookAfter (opened l r) (hearing (powered l r) calls) in
+    let f = book-image (opened l r) (hearing (powered l r) calls) in
+    same-output b k o out (still-agree (powered l r) (opened l r) calls bc (opens l r e bl br))
+    ∙ ap₂
+    (λ (p : ℕ) (i : Option (List ℕ)).
+    let n = requestNumber p p o (length out) (B.imageNumber i) in
+    C.output n (outputAfter n (B.askedBytes i o (length out)) out)) (f .0) (f .1)
 
 -- ---- a finished save
 -- the deciding store of a save lies in its list

@@ -1,13 +1,16 @@
 -- The rule of document 01's table, proved once over the table: each row is found by its own words, its live side is
 -- that of its state, and the live page is the one that its marks say. From it, the live side of any two pages is that
--- of their state, and a state other than S0 is the words of its row and no others.
+-- of their state, a state other than S0 is the words of its row and no others, and a RIGHT whose Spare isn't FF has no
+-- row.
 -- Assumes nothing.
 use mathlib.Core.Path.{_≡_, refl, sym, ap, ap₂, _∙_}
 use mathlib.Core.Bool.{Bool, true, false, cond, not, _&&_, _||_}
 use mathlib.Core.List.{List, [], _∷_}
-use Prim.Native.Nat.{ℕ}
-use lib.Dec.{eqb}
-use borrow.Author.Tests.{eqb-true}
+use Prim.Native.Nat.{ℕ, _<_}
+use native.Mathlib.Omega.{arith}
+use lib.Dec.{eqb, ltb}
+use lib.ListN.{getD}
+use borrow.Author.Tests.{eqb-true, ltb-false}
 use Rattle.pages.specs.declared.State.{State}
 use Rattle.pages.specs.declared.State.the-variants.{S0, S1, S2, S3, S5, S6, S7, S8, S9, S10}
 use Rattle.pages.specs.declared.Live.the-variants.{On}
@@ -113,3 +116,29 @@ pub state-of : (l r : List ℕ) (st : State) → (lineOf st ≡ 0 → ⊥) → w
     → statusOf l r .state ≡ st
 unfolding statusOf
 state-of l r st h p q = ap₂ (λ (a b : ℕ). look table a b .state) p q ∙ at-row st h
+
+-- ---- Spare
+-- every row's RIGHT has Spare FF, so no row has a word of RIGHT below it
+abbrev Spared : Row → Type 0
+Spared x = ltb (x .1) 0xFF000000 ≡ false
+
+spared : All Spared table
+spared = search tt
+
+no-row : (xs : List Row) → All Spared xs → (l r : ℕ) → r < 0xFF000000 → look xs l r .state ≡ S0
+unfolding look
+no-row [] a l r h = refl
+no-row (x ∷ xs) a l r h = go (eqb (x .0) l) (eqb (x .1) r) refl (no-row xs (a .1) l r h)
+  where
+    go : (s t : Bool) → eqb (x .1) r ≡ t → look xs l r .state ≡ S0
+        → cond (s && t) (record { state = x .2; live = On (x .3) }) (look xs l r) .state ≡ S0
+    go true true q later =
+        absurd (omega (arith, eqb-true (x .1) r q, h, ltb-false (x .1) 0xFF000000 (a .0)))
+    go true false q later = later
+    go false t q later = later
+
+-- the bytes of RIGHT say it: they are bytes, and the fourth isn't FF
+pub spare-none : (l r : List ℕ) → getD r 0 0 < 256 → getD r 1 0 < 256 → getD r 2 0 < 256 → getD r 3 0 < 255
+    → statusOf l r .state ≡ S0
+unfolding statusOf wordOf
+spare-none l r a b c d = no-row table spared (wordOf l) (wordOf r) (omega (arith, a, b, c, d))

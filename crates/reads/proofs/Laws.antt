@@ -1,7 +1,7 @@
 -- Laws of the two reads.
 -- In order: where a read finds its bytes; what follows of its number, of the part and of the output.
 -- Not here: laws of numbers 1 to 4 (the crate requests) and of flash (flash). Assumes nothing.
-use Prim.Native.Nat.{ℕ, _+_, _-_}
+use Prim.Native.Nat.{ℕ, _+_, _-_, min}
 use mathlib.Core.Path.{_≡_, refl, sym, ap, _∙_}
 use mathlib.Core.Bool.{cond}
 use mathlib.Core.List.{List, [], _++_, append-nil}
@@ -11,6 +11,7 @@ use lib.Dec.{eqb}
 use lib.ListN.{length, take, drop, length-drop}
 use lib.Seq.{take-length, drop-length, length-take-le}
 use borrow.Author.Tests.{ne-eqb}
+use Rattle.copies.specs.Copies.{copied}
 use Rattle.flash.specs.Flash.{Outcome, erasure}
 use Rattle.pages.specs.declared.Side.{Side}
 use Rattle.pages.specs.declared.Side.the-variants.{Left, Right}
@@ -120,10 +121,12 @@ part-length l r o n s e =
     length-take-le n (drop o (onSide s l r)) (simp length-drop (omega arith))
 
 -- a copy of as many bytes as the output has is those bytes
-copied : (src out : List ℕ) → length src ≡ length out → take (length src) src ++ drop (length src) out ≡ src
-copied src out e =
+whole-copy : (src out : List ℕ) → length src ≡ length out → copied src out ≡ src
+unfolding copied
+whole-copy src out e =
+    let n : min (length src) (length out) ≡ length src = omega (arith, e) in
     let d : drop (length src) out ≡ [] = ap (λ (k : ℕ). drop k out) e ∙ drop-length out in
-    simp (take-length, d, append-nil)
+    ap (λ (k : ℕ). take k src ++ drop k out) n ∙ simp (take-length, d, append-nil)
 
 -- ---- the output after each answer
 filling : (l r : List ℕ) (o k : ℕ) (out bytes : List ℕ) → k ≡ readNumber l r o (length out)
@@ -152,9 +155,9 @@ blank l r o out bytes e h =
 pub given : (l r : List ℕ) (o : ℕ) (s : Side) (out src bytes : List ℕ)
     → liveOn s ≡ located l r o (length out)
     → src ≡ take (length out) (drop o (onSide s l r))
-    → bytes ≡ take (length src) src ++ drop (length src) out
+    → bytes ≡ copied src out
     → _≡_ {A = Outcome} (record { number = 0; bytes = bytes }) (filled l r o out)
 unfolding outputAfter
 given l r o s out src bytes e p q =
     filling l r o 0 out bytes (found-number l r o (length out) (liveOn s) e)
-    (q ∙ copied src out (ap length p ∙ part-length l r o (length out) s e) ∙ p ∙ on-part l r o (length out) s e)
+    (q ∙ whole-copy src out (ap length p ∙ part-length l r o (length out) s e) ∙ p ∙ on-part l r o (length out) s e)

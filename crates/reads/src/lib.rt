@@ -124,7 +124,7 @@ pub fn read_into<'a>(left: &'a [u8], right: &'a [u8], offset: PageOffset, out: &
             Reading::NoLive
         }
         Found::On(side) => {
-            bytes::copy(part(left, right, side, offset, size), out);
+            copies::copy(part(left, right, side, offset, size), out);
             Reading::Given
         }
     }

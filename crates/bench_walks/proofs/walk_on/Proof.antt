@@ -26,42 +26,54 @@ loop-holds c = (omega arith, refl, refl, refl)
 step-requires : tie.Need-step-requires Inv-loop μ-loop
 step-requires c κs = search needs
 
-code-of-requires : tie.Need-code-of-requires Inv-loop μ-loop
-code-of-requires c κs = search needs
+enum-told : tie.Need-enum-told Inv-loop μ-loop
+enum-told c = search needs
 
 same-length : tie.Need-same-length Inv-loop μ-loop
-same-length c = c .before .before .before .before .before .before .step .kept .1 .0 ∙ c .before .before .before .before .before .before .before .before .before .before .loop .inv .1
+same-length c =
+    let step = c .before .before .before .before .before .before in
+    step .step .kept .1 .0 ∙ step .before .before .before .before .loop .inv .1
 
 same-length-2 : tie.Need-same-length-2 Inv-loop μ-loop
-same-length-2 c = c .before .before .before .before .before .before .step .kept .1 .1 .0 ∙ c .before .before .before .before .before .before .before .before .before .before .loop .inv .2
+same-length-2 c =
+    let step = c .before .before .before .before .before .before in
+    step .step .kept .1 .1 .0 ∙ step .before .before .before .before .loop .inv .2
 
 returns : tie.Need-returns Inv-loop μ-loop
 returns c =
-    let code = c .before in
-    let step = code .before .before .before .before .before in
+    let step = c .before .before .before .before .before .before in
     let loop = step .before .before .before .before in
     let a = loop .before .before .before .before .before .args in
     let here = atPlace (a .walk) (loop .loop .place) in
     ends (loop .loop .made) here (loop .loop .left) (loop .loop .right) (a .«data» .now) _ _ (step .step .result)
-    (code .code-of .result) (omega arith) (step .step .ensures) (code .code-of .ensures) (c .if1 .taken)
+    (omega arith) (step .step .ensures) (c .enum-told .given .1)
     ∙ loop .loop .inv .3
 
+enum-told-2 : tie.Need-enum-told-2 Inv-loop μ-loop
+enum-told-2 c = search needs
+
 same-length-3 : tie.Need-same-length-3 Inv-loop μ-loop
-same-length-3 c = c .before .before .before .before .before .before .before .step .kept .1 .0 ∙ c .before .before .before .before .before .before .before .before .before .before .before .loop .inv .1
+same-length-3 c =
+    let step = c .before .before .before .before .before .before in
+    step .step .kept .1 .0 ∙ step .before .before .before .before .loop .inv .1
 
 same-length-4 : tie.Need-same-length-4 Inv-loop μ-loop
-same-length-4 c = c .before .before .before .before .before .before .before .step .kept .1 .1 .0 ∙ c .before .before .before .before .before .before .before .before .before .before .before .loop .inv .2
+same-length-4 c =
+    let step = c .before .before .before .before .before .before in
+    step .step .kept .1 .1 .0 ∙ step .before .before .before .before .loop .inv .2
 
 returns-2 : tie.Need-returns-2 Inv-loop μ-loop
 returns-2 c =
-    let code = c .before .before in
-    let step = code .before .before .before .before .before in
+    let step = c .before .before .before .before .before .before in
     let loop = step .before .before .before .before in
     let a = loop .before .before .before .before .before .args in
     let here = atPlace (a .walk) (loop .loop .place) in
     breaks (loop .loop .made) here (loop .loop .left) (loop .loop .right) (a .«data» .now) _ _ (step .step .result)
-    (code .code-of .result) (omega arith) (step .step .ensures) (code .code-of .ensures) (c .if2 .taken)
+    (omega arith) (step .step .ensures) (c .enum-told2 .given .1)
     ∙ loop .loop .inv .3
+
+enum-told-3 : tie.Need-enum-told-3 Inv-loop μ-loop
+enum-told-3 c = search needs
 
 add-made : tie.Need-add-made Inv-loop μ-loop
 add-made c = omega arith
@@ -71,17 +83,15 @@ loop-less c = omega arith
 
 loop-again : tie.Need-loop-again Inv-loop μ-loop
 loop-again c =
-    let code = c .before .before .before in
-    let step = code .before .before .before .before .before in
+    let step = c .before .before .before .before .before .before .before in
     let loop = step .before .before .before .before in
     let a = loop .before .before .before .before .before .args in (
       omega arith,
       step .step .kept .1 .0 ∙ loop .loop .inv .1,
       step .step .kept .1 .1 .0 ∙ loop .loop .inv .2,
       goes-on (loop .loop .made) (a .walk) (loop .loop .place) (loop .loop .left) (loop .loop .right)
-          (a .«data» .now) _ _ (step .step .result) (code .code-of .result) (omega arith)
-          (step .step .ensures) (code .code-of .ensures) (c .before .before .if1 .left)
-          (c .before .if2 .left)
+          (a .«data» .now) _ _ (step .step .result) (omega arith) (step .step .ensures)
+          (c .before .enum-told3 .given .1)
           ∙ loop .loop .inv .3,
     )
 
@@ -107,13 +117,15 @@ walk-on-spec =
     μ-loop
     loop-holds
     step-requires
-    code-of-requires
+    enum-told
     same-length
     same-length-2
     returns
+    enum-told-2
     same-length-3
     same-length-4
     returns-2
+    enum-told-3
     add-made
     loop-less
     loop-again

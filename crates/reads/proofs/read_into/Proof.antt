@@ -2,7 +2,6 @@
 -- copied from.
 -- Assumes nothing.
 use native.Mathlib.Omega.{arith}
-use lib.ListN.{length-take}
 use Rattle.flash.proofs.Laws.{told}
 use Rattle.reads.specs.Reads.{foundIn}
 use Rattle.reads.proofs.Laws.{on-legal, kept, blank, given}
@@ -33,7 +32,7 @@ part-requires c κs =
     )
 
 copy-requires : tie.Need-copy-requires
-copy-requires c κs = simp (c .before .part .ensures, length-take) (omega arith)
+copy-requires c κs = search needs
 
 returns : tie.Need-returns
 returns c =
@@ -57,7 +56,7 @@ returns-3 c =
     let at = c .before .before .before .before in
     given _ _ _ _ _ _ _
     (told foundIn (at .before .before .side .given .1) (at .before .before .before .before .locate .ensures))
-    (at .part .ensures) (c .before .before .copy .ensures .1)
+    (at .part .ensures) (c .before .before .copy .ensures)
 
 pub read-into-spec : {M : Type 1} → statement M
 read-into-spec =

@@ -1,12 +1,26 @@
 // The board between two calls of a script, and the calls made on it. Nothing here prints.
 //
 // A script is a text whose lines are right. The data of the walk in hand is that of the line that
-// began it.
+// began it. What each call leaves is in specs/Boards.antt.
 use pages::PageOffset;
 use texts::Call;
 use walks::Begun;
 use walks::Progress;
 use walks::Walk;
+ghost use mathlib.Core.Path.{_≡_};
+ghost use Rattle.walks.specs.Walks.{beginSave, beginningIn};
+ghost use Rattle.boards.specs.Boards.{
+  shown,
+  dataOf,
+  idle,
+  taken,
+  Moved,
+  steppedOn,
+  digitsOf,
+  Placed,
+  handStepped,
+  madeOn,
+};
 
 // The walk in hand.
 pub enum Hand {
@@ -22,7 +36,9 @@ pub struct Board {
 
 impl Board {
     // A board with no walk in hand.
-    pub fn new() -> Board {
+    pub fn new() -> Board
+        ensures { λ r. ⌜ r ≡ idle ⌝ }
+    {
         Board {
             hand: Hand::Empty,
             at: 0,
@@ -32,7 +48,9 @@ impl Board {
 
 // ---- the pages
 // What a read of the whole image gives: nothing where no page is live.
-pub fn image<'a>(left: &'a [u8], right: &'a [u8]) -> &'a [u8] {
+pub fn image<'a>(left: &'a [u8], right: &'a [u8]) -> &'a [u8]
+    ensures { λ r. ⌜ now r ≡ shown (now (left .entry)) (now (right .entry)) ⌝ }
+{
     let size = left.len();
     if pages::MAX_PAGE < size {
         return &left[0..0];
@@ -45,31 +63,24 @@ pub fn image<'a>(left: &'a [u8], right: &'a [u8]) -> &'a [u8] {
     reads::read(left, right, start, page - pages::MANAGEMENT_SIZE)
 }
 
-// Copies bytes to the start of a buffer, if they fit.
-pub fn put(from: &[u8], to: &mut [u8]) {
-    if to.len() < from.len() {
-        return;
-    }
-    bytes::copy(from, to);
-}
-
-// Copies what a read of the whole image gives to the start of a buffer, and says how long it is.
-pub fn keep_image<'a>(left: &'a [u8], right: &'a [u8], to: &mut [u8]) -> usize {
-    let now = image(left, right);
-    put(now, to);
-    now.len()
-}
-
 // ---- beginnings
 // Begins a save of the bytes of hexadecimal digits.
-pub fn begin_save(left: &[u8], right: &[u8], offset: u32, digits: &[u8]) -> Begun {
+pub fn begin_save(left: &[u8], right: &[u8], offset: u32, digits: &[u8]) -> Begun
+    ensures { λ r.
+        ⌜ beginningIn r
+        ≡ beginSave (now (left .entry)) (now (right .entry))
+        (record { 0 = offset })
+        (dataOf (now (digits .entry))) ⌝ }
+{
     let mut data = [0u8; 4096];
     let size = texts::decode(digits, &mut data);
     Walk::save(left, right, PageOffset(offset), &data[0..size])
 }
 
 // The board after a beginning by the line at a place: one that is refused leaves it as it was.
-fn take(begun: Begun, at: usize, board: Board) -> Board {
+fn take(begun: Begun, at: usize, board: Board) -> Board
+    ensures { λ r. ⌜ r ≡ taken (beginningIn begun) at board ⌝ }
+{
     match begun {
         Begun::On(walk) => Board {
             hand: Hand::On(walk),
@@ -80,24 +91,25 @@ fn take(begun: Begun, at: usize, board: Board) -> Board {
 }
 
 // ---- steps
-// Whether a step is made.
-pub fn is_made(progress: Progress) -> bool {
-    match progress {
-        Progress::Made => true,
-        Progress::Ended => false,
-        Progress::Unfit => false,
-    }
-}
-
 // Steps a walk a number of times, up to the first step that isn't made.
-pub fn steps(count: u32, walk: Walk, left: &mut [u8], right: &mut [u8], data: &[u8]) -> Walk {
+pub fn steps(count: u32, walk: Walk, left: &mut [u8], right: &mut [u8], data: &[u8]) -> Walk
+    ensures { λ r.
+        ⌜ _≡_ {A = Moved}
+        (record { walk = r; left = now (left .exit); right = now (right .exit) })
+        (steppedOn count walk
+        (now (left .entry))
+        (now (right .entry))
+        (now («data» .entry))) ⌝ }
+{
     let mut now = walk;
     for _ in 0..count {
         let stepped = now.step(left, right, data);
         let progress = stepped.progress;
         now = stepped.walk;
-        if !is_made(progress) {
-            return now;
+        match progress {
+            Progress::Made => {}
+            Progress::Ended => return now,
+            Progress::Unfit => return now,
         }
     }
     now
@@ -105,9 +117,12 @@ pub fn steps(count: u32, walk: Walk, left: &mut [u8], right: &mut [u8], data: &[
 
 // The digits of what the walk in hand is stepped with by a line: its own, unless the line gives
 // digits, and not as many.
-pub fn step_digits<'a>(text: &'a [u8], line: &'a [u8], with: bool, board: Board) -> &'a [u8] {
+pub fn step_digits<'a>(text: &'a [u8], line: &'a [u8], own: bool, board: Board) -> &'a [u8]
+    ensures { λ r.
+        ⌜ now r ≡ digitsOf (now (text .entry)) (now (line .entry)) own board ⌝ }
+{
     let held = texts::word(texts::line_at(text, board.at), 2);
-    if !with {
+    if !own {
         return held;
     }
     let digits = texts::word(line, 2);
@@ -117,7 +132,17 @@ pub fn step_digits<'a>(text: &'a [u8], line: &'a [u8], with: bool, board: Board)
     digits
 }
 
-fn step_hand(count: u32, digits: &[u8], left: &mut [u8], right: &mut [u8], board: Board) -> Board {
+fn step_hand(count: u32, digits: &[u8], left: &mut [u8], right: &mut [u8], board: Board) -> Board
+    ensures { λ r.
+        ⌜ _≡_ {A = Placed}
+        (record { board = r; left = now (left .exit); right = now (right .exit) })
+        (handStepped count
+        (dataOf (now (digits .entry)))
+        (board .hand)
+        (now (left .entry))
+        (now (right .entry))
+        board) ⌝ }
+{
     let hand = board.hand;
     match hand {
         Hand::Empty => board,
@@ -135,7 +160,12 @@ fn step_hand(count: u32, digits: &[u8], left: &mut [u8], right: &mut [u8], board
 
 // ---- calls
 // Makes the call of the line at a place.
-pub fn make(text: &[u8], at: usize, left: &mut [u8], right: &mut [u8], board: Board) -> Board {
+pub fn make(text: &[u8], at: usize, left: &mut [u8], right: &mut [u8], board: Board) -> Board
+    ensures { λ r.
+        ⌜ _≡_ {A = Placed}
+        (record { board = r; left = now (left .exit); right = now (right .exit) })
+        (madeOn (now (text .entry)) at (now (left .entry)) (now (right .entry)) board) ⌝ }
+{
     let line = texts::line_at(text, at);
     match texts::parse(line) {
         Call::Save(offset) => {
@@ -146,11 +176,14 @@ pub fn make(text: &[u8], at: usize, left: &mut [u8], right: &mut [u8], board: Bo
             )
         }
         Call::Format => take(Walk::format(left, right), at, board),
-        Call::Step(count, with) => {
-            let digits = step_digits(text, line, with, board);
+        Call::Step(count, own) => {
+            let digits = step_digits(text, line, own, board);
             step_hand(count, digits, left, right, board)
         }
         Call::Cut => Board::new(),
-        _ => board,
+        Call::Nothing => board,
+        Call::Read(_, _) => board,
+        Call::Copy(_, _) => board,
+        Call::Wrong(_, _) => board,
     }
 }

@@ -61,8 +61,8 @@ fn last_save(text: &[u8], left: &[u8], right: &[u8]) -> Last {
     }
     let mut copy_left = [0u8; 4096];
     let mut copy_right = [0u8; 4096];
-    boards::put(left, &mut copy_left);
-    boards::put(right, &mut copy_right);
+    copies::copy(left, &mut copy_left);
+    copies::copy(right, &mut copy_right);
     find_last(text, &mut copy_left[0..page], &mut copy_right[0..page])
 }
 
@@ -127,8 +127,8 @@ fn cut_after<'a>(count: u32, walk: Walk, data: &[u8], left: &'a [u8], right: &'a
     }
     let mut copy_left = [0u8; 4096];
     let mut copy_right = [0u8; 4096];
-    boards::put(left, &mut copy_left);
-    boards::put(right, &mut copy_right);
+    copies::copy(left, &mut copy_left);
+    copies::copy(right, &mut copy_right);
     cut_on(
         count,
         walk,

@@ -44,7 +44,9 @@ fn print_step<'a>(progress: Progress, walk: Walk, left: &'a [u8], right: &'a [u8
 
 fn step_once(walk: Walk, left: &mut [u8], right: &mut [u8], data: &[u8]) -> Stepped {
     let mut space = [0u8; 4096];
-    let size = boards::keep_image(left, right, &mut space);
+    let before = boards::image(left, right);
+    let size = before.len();
+    copies::copy(before, &mut space);
     let stepped = walk.step(left, right, data);
     let progress = stepped.progress;
     print_step(progress, walk, left, right, loads::first(&space, size));
@@ -58,8 +60,10 @@ fn steps(count: u32, walk: Walk, left: &mut [u8], right: &mut [u8], data: &[u8])
         let stepped = step_once(now, left, right, data);
         let progress = stepped.progress;
         now = stepped.walk;
-        if !boards::is_made(progress) {
-            return now;
+        match progress {
+            Progress::Made => {}
+            Progress::Ended => return now,
+            Progress::Unfit => return now,
         }
     }
     now

@@ -1,7 +1,20 @@
-// What a read shows after a save was cut: the image before the save, the new one, or another. The
-// lines are in docs/FORMATS.md.
+// What a read shows after a save was cut: the image before the save, the new one, or another. What
+// each verdict means is in specs/Verdicts.antt; the lines that are printed are in docs/FORMATS.md.
 use pages::InImage;
 use pages::PageOffset;
+ghost use mathlib.Core.Path.{_≡_};
+ghost use Rattle.texts.specs.Texts.{same};
+ghost use Rattle.verdicts.specs.Verdicts.{
+  oldByte,
+  newByte,
+  isNew,
+  isSaved,
+  imageVerdict,
+  verdictOf,
+  oneMore,
+  none,
+  counted,
+};
 
 // What a read shows after a cut: no image, as before the save; the image before it, which may be
 // the new one too; the new one; or another.
@@ -22,12 +35,17 @@ pub struct Tally {
 
 // ---- what a read shows
 // A byte of an image, FF where there is none.
-fn old_byte(image: &[u8], at: usize) -> u8 {
+fn old_byte(image: &[u8], at: usize) -> u8
+    ensures { λ r. ⌜ r ≡ oldByte (now (image .entry)) at ⌝ }
+{
     if at < image.len() { image[at] } else { 255 }
 }
 
 // A byte of an image into which data is laid from a place on.
-fn new_byte(image: &[u8], start: usize, data: &[u8], at: usize) -> u8 {
+fn new_byte(image: &[u8], start: usize, data: &[u8], at: usize) -> u8
+    ensures { λ r.
+        ⌜ r ≡ newByte (now (image .entry)) start (now («data» .entry)) at ⌝ }
+{
     if at < start {
         return old_byte(image, at);
     }
@@ -38,9 +56,12 @@ fn new_byte(image: &[u8], start: usize, data: &[u8], at: usize) -> u8 {
     old_byte(image, at)
 }
 
-fn is_new(now: &[u8], old: &[u8], start: usize, data: &[u8]) -> bool {
-    for i in 0..now.len() {
-        if now[i] != new_byte(old, start, data, i) {
+fn is_new(image: &[u8], old: &[u8], start: usize, data: &[u8]) -> bool
+    ensures { λ r.
+        ⌜ r ≡ isNew (now (image .entry)) (now (old .entry)) start (now («data» .entry)) 0 ⌝ }
+{
+    for i in 0..image.len() {
+        if image[i] != new_byte(old, start, data, i) {
             return false;
         }
     }
@@ -49,15 +70,21 @@ fn is_new(now: &[u8], old: &[u8], start: usize, data: &[u8]) -> bool {
 
 // Whether an image is the one before the save with the data laid in at a page offset. No save is
 // begun in the management bytes.
-fn is_saved(now: &[u8], old: &[u8], offset: PageOffset, data: &[u8]) -> bool {
+fn is_saved(image: &[u8], old: &[u8], offset: PageOffset, data: &[u8]) -> bool
+    ensures { λ r.
+        ⌜ r ≡ isSaved (now (image .entry)) (now (old .entry)) offset (now («data» .entry)) ⌝ }
+{
     match offset.to_image() {
         InImage::Management => false,
-        InImage::At(inside) => is_new(now, old, inside.0 as usize, data),
+        InImage::At(inside) => is_new(image, old, inside.0 as usize, data),
     }
 }
 
-fn judge_image(now: &[u8], old: &[u8], new: bool) -> Verdict {
-    if check::same(now, old) {
+fn judge_image(image: &[u8], old: &[u8], new: bool) -> Verdict
+    ensures { λ r.
+        ⌜ r ≡ imageVerdict (same (now (image .entry)) (now (old .entry))) new ⌝ }
+{
+    if check::same(image, old) {
         if new {
             return Verdict::Both;
         }
@@ -71,9 +98,12 @@ fn judge_image(now: &[u8], old: &[u8], new: bool) -> Verdict {
 
 // What an image that a read shows is beside the one before a save of the data at a page offset. No
 // bytes stand for no image.
-pub fn judge(now: &[u8], old: &[u8], offset: PageOffset, data: &[u8]) -> Verdict {
-    if 0 < now.len() {
-        return judge_image(now, old, is_saved(now, old, offset, data));
+pub fn judge(image: &[u8], old: &[u8], offset: PageOffset, data: &[u8]) -> Verdict
+    ensures { λ r.
+        ⌜ r ≡ verdictOf (now (image .entry)) (now (old .entry)) offset (now («data» .entry)) ⌝ }
+{
+    if 0 < image.len() {
+        return judge_image(image, old, is_saved(image, old, offset, data));
     }
     if 0 < old.len() {
         return Verdict::Another;
@@ -81,12 +111,16 @@ pub fn judge(now: &[u8], old: &[u8], offset: PageOffset, data: &[u8]) -> Verdict
     Verdict::NoImage
 }
 
-fn one_more(n: u64) -> u64 {
+fn one_more(n: u64) -> u64
+    ensures { λ r. ⌜ r ≡ oneMore n ⌝ }
+{
     std::num::wrapping_add_u64(n, 1)
 }
 
 impl Tally {
-    pub fn new() -> Tally {
+    pub fn new() -> Tally
+        ensures { λ r. ⌜ r ≡ none ⌝ }
+    {
         Tally {
             old: 0,
             new: 0,
@@ -95,7 +129,9 @@ impl Tally {
     }
 
     // With one verdict more. No save has so many steps that a count wraps.
-    pub fn with(self, verdict: Verdict) -> Tally {
+    pub fn with(self, verdict: Verdict) -> Tally
+        ensures { λ r. ⌜ r ≡ counted self verdict ⌝ }
+    {
         let mut next = self;
         match verdict {
             Verdict::New => {
@@ -104,7 +140,13 @@ impl Tally {
             Verdict::Another => {
                 next.another = one_more(self.another);
             }
-            _ => {
+            Verdict::NoImage => {
+                next.old = one_more(self.old);
+            }
+            Verdict::Old => {
+                next.old = one_more(self.old);
+            }
+            Verdict::Both => {
                 next.old = one_more(self.old);
             }
         }

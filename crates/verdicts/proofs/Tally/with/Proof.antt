@@ -1,0 +1,80 @@
+-- `verdicts::Tally::with` meets its contract, verdict by verdict. Assumes nothing.
+use Rattle.verdicts.proofs.Laws.{counted-as}
+use borrow.Author.Needs.{needs}
+use Rattle.verdicts.proofs.Tally.with.Statement.{statement}
+use Rattle.verdicts.proofs.Tally.with.Tie as tie
+
+enum-told : tie.Need-enum-told
+enum-told c = search needs
+
+one-more-requires : tie.Need-one-more-requires
+one-more-requires c κs = search needs
+
+enum-told-2 : tie.Need-enum-told-2
+enum-told-2 c = search needs
+
+one-more-requires-2 : tie.Need-one-more-requires-2
+one-more-requires-2 c κs = search needs
+
+enum-told-3 : tie.Need-enum-told-3
+enum-told-3 c = search needs
+
+one-more-requires-3 : tie.Need-one-more-requires-3
+one-more-requires-3 c κs = search needs
+
+enum-told-4 : tie.Need-enum-told-4
+enum-told-4 c = search needs
+
+one-more-requires-4 : tie.Need-one-more-requires-4
+one-more-requires-4 c κs = search needs
+
+enum-told-5 : tie.Need-enum-told-5
+enum-told-5 c = search needs
+
+one-more-requires-5 : tie.Need-one-more-requires-5
+one-more-requires-5 c κs = search needs
+
+returns : tie.Need-returns
+returns c =
+    let t = c .before .before .before .args .self in
+    counted-as t _ _ _ (c .before .enum-told .given .1) (λ i. record { old = t .old; new = c .one-more .ensures i; another = t .another })
+
+returns-2 : tie.Need-returns-2
+returns-2 c =
+    let t = c .before .before .before .args .self in
+    counted-as t _ _ _ (c .before .enum-told2 .given .1) (λ i. record { old = t .old; new = t .new; another = c .one-more2 .ensures i })
+
+returns-3 : tie.Need-returns-3
+returns-3 c =
+    let t = c .before .before .before .args .self in
+    counted-as t _ _ _ (c .before .enum-told3 .given .1) (λ i. record { old = c .one-more3 .ensures i; new = t .new; another = t .another })
+
+returns-4 : tie.Need-returns-4
+returns-4 c =
+    let t = c .before .before .before .args .self in
+    counted-as t _ _ _ (c .before .enum-told4 .given .1) (λ i. record { old = c .one-more4 .ensures i; new = t .new; another = t .another })
+
+returns-5 : tie.Need-returns-5
+returns-5 c =
+    let t = c .before .before .before .args .self in
+    counted-as t _ _ _ (c .before .enum-told5 .given .1) (λ i. record { old = c .one-more5 .ensures i; new = t .new; another = t .another })
+
+pub with-spec : {M : Type 1} → statement M
+with-spec =
+    tie.close
+    (tie.spec
+    enum-told
+    one-more-requires
+    enum-told-2
+    one-more-requires-2
+    enum-told-3
+    one-more-requires-3
+    enum-told-4
+    one-more-requires-4
+    enum-told-5
+    one-more-requires-5
+    returns
+    returns-2
+    returns-3
+    returns-4
+    returns-5)

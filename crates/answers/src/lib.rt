@@ -94,7 +94,7 @@ pub fn total(walk: Walk) -> u32
 fn spot(walk: Walk, place: u32) -> Spot {
     let request = walk.request;
     let start = walk.start;
-    plans::spot_at(request, start, walk.erased, walk.page, place)
+    entries::spot_at(request, start, walk.erased, walk.page, place)
 }
 
 fn decides(walk: Walk, place: u32) -> bool {

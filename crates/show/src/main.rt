@@ -117,7 +117,7 @@ fn print_steps(walk: Walk, total: u32, image: u32) {
     let request = walk.request;
     let start = walk.start;
     for place in 0..total {
-        let spot = plans::spot_at(request, start, walk.erased, walk.page, place);
+        let spot = entries::spot_at(request, start, walk.erased, walk.page, place);
         print_spot(spot, place, image);
     }
 }

@@ -167,7 +167,7 @@ fn try_cell(
         InImage::Management => Programmed::Unfit,
         InImage::At(inside) => {
             let value = images::new_cell(old_image(live, left, right), inside, data, at);
-            let side = plans::target_side(live);
+            let side = entries::target_side(live);
             steps::make_image(side, at, value, left, right)
         }
     }
@@ -191,13 +191,13 @@ fn try_step(walk: Walk, left: &mut [u8], right: &mut [u8], data: &[u8]) -> Progr
     let request = walk.request;
     let start = walk.start;
     let offset = walk.offset;
-    match plans::cell_at(request, start, walk.erased, walk.page, walk.place) {
+    match entries::cell_at(request, start, walk.erased, walk.page, walk.place) {
         InCells::At(at) => {
-            let live = plans::live_of(start);
+            let live = entries::live_of(start);
             try_cell(live, at, offset, data, left, right)
         }
         InCells::Outside => {
-            match plans::spot_at(request, start, walk.erased, walk.page, walk.place) {
+            match entries::spot_at(request, start, walk.erased, walk.page, walk.place) {
                 Spot::Fixed(x) => try_entry(x, left, right),
                 Spot::Cell(_, _, _, _) => Programmed::Unfit,
                 Spot::Beyond => Programmed::Unfit,

@@ -18,7 +18,7 @@ use Rattle.boards.specs.declared.Hand as H
 use Rattle.boards.specs.declared.Hand.{Hand}
 use Rattle.boards.specs.declared.Board.{Board}
 
--- "A read of the whole image": nothing where it is refused or no page is live
+-- what a read of the whole image gives: nothing where it is refused or no page is live
 abbrev pub shown : List ℕ → List ℕ → List ℕ
 shown l r = readPart l r 4 (length l - 4)
 

@@ -5,8 +5,8 @@ use Prim.Native.Nat.{ℕ, _+_, _-_, _≤_, min}
 use mathlib.Core.Path.{_≡_, refl, sym, ap, ap₂, _∙_}
 use mathlib.Core.List.{List, [], _++_, append-assoc, append-nil}
 use native.Mathlib.Omega.{arith}
-use lib.ListN.{length, take, drop, length-drop, drop-of-length-le}
-use lib.Seq.{take-length, length-take-le, take-at, drop-at, take-add, take-all, drop-drop, drop-append-add}
+use lib.ListN.{length, take, drop, drop-of-length-le}
+use lib.Seq.{take-length, length-take-le, take-at, take-add, drop-drop, drop-append-add}
 use borrow.Rule.Slice.PartMut.{midOf, putMid, post-is, mid-len}
 use Rattle.copies.specs.Copies.{copied}
 

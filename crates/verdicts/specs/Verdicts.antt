@@ -1,12 +1,12 @@
--- What a read shows after a save was cut (document 01: "before it a read shows the old image,
--- whole; from it on the new one, whole").
+-- What a read shows after a save was cut: the image before the save, the new one, or another (the
+-- report of `--cuts` in docs/FORMATS.md).
 -- In order: the new image, byte by byte; the verdict; counting verdicts.
 -- Laws: proofs/Laws.antt, where the new image is the old one with the data laid in. Assumes nothing.
-use Prim.Native.Nat.{ℕ, suc, _+_, _-_, _%_, _^_}
+use Prim.Native.Nat.{ℕ, _+_, _-_, _%_, _^_}
 use mathlib.Core.Bool.{Bool, true, false, cond, _&&_, not}
 use mathlib.Core.List.{List, [], _∷_}
 use lib.Dec.{eqb, ltb}
-use lib.ListN.{length, getD}
+use lib.ListN.{getD}
 use Rattle.pages.specs.declared.PageOffset.{PageOffset}
 use Rattle.texts.specs.Texts.{same}
 use Rattle.verdicts.specs.declared.Verdict.{Verdict}

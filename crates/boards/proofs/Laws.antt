@@ -20,7 +20,6 @@ use Rattle.walks.specs.declared.Walk.{Walk}
 use Rattle.walks.specs.declared.Begun as B
 use Rattle.walks.specs.declared.Begun.{Begun}
 use Rattle.walks.specs.declared.Progress.{Progress}
-use Rattle.walks.specs.declared.Progress.the-variants.{Made, Ended, Unfit}
 use Rattle.walks.specs.declared.Stepped as S
 use Rattle.walks.specs.Walks.{Beginning, beginSave, beginFormat, beginningIn, Outcome, saidIn, stepOf}
 use Rattle.boards.specs.declared.Hand as H
@@ -135,21 +134,12 @@ on-step n w l r d l′ r′ s p e q =
 count-down : (m k : ℕ) → k < m → suc (m - (k + 1)) ≡ m - k
 count-down m k h = omega arith
 
--- with the steps that are left counted down
-pub step-made : (m k : ℕ) (w : Walk) (l r d l′ r′ : List ℕ) (s : S.Stepped) → k < m → outcome s l′ r′ ≡ stepOf w l r d
-    → s .progress ≡ Made → steppedOn (m - (k + 1)) (s .walk) l′ r′ d ≡ steppedOn (m - k) w l r d
-step-made m k w l r d l′ r′ s h e q =
-    on-step (m - (k + 1)) w l r d l′ r′ s Made e q ∙ ap (λ (n : ℕ). steppedOn n w l r d) (count-down m k h)
-
-pub step-ended : (m k : ℕ) (w : Walk) (l r d l′ r′ : List ℕ) (s : S.Stepped) → k < m → outcome s l′ r′ ≡ stepOf w l r d
-    → s .progress ≡ Ended → moved s l′ r′ ≡ steppedOn (m - k) w l r d
-step-ended m k w l r d l′ r′ s h e q =
-    on-step (m - (k + 1)) w l r d l′ r′ s Ended e q ∙ ap (λ (n : ℕ). steppedOn n w l r d) (count-down m k h)
-
-pub step-unfit : (m k : ℕ) (w : Walk) (l r d l′ r′ : List ℕ) (s : S.Stepped) → k < m → outcome s l′ r′ ≡ stepOf w l r d
-    → s .progress ≡ Unfit → moved s l′ r′ ≡ steppedOn (m - k) w l r d
-step-unfit m k w l r d l′ r′ s h e q =
-    on-step (m - (k + 1)) w l r d l′ r′ s Unfit e q ∙ ap (λ (n : ℕ). steppedOn n w l r d) (count-down m k h)
+-- what a step leaves, with the steps that are left counted down: the rest of the walk where it is made
+pub step-leaves : (m k : ℕ) (w : Walk) (l r d l′ r′ : List ℕ) (s : S.Stepped) (p : Progress) → k < m
+    → outcome s l′ r′ ≡ stepOf w l r d → s .progress ≡ p
+    → onMade (saidIn p) (steppedOn (m - (k + 1)) (s .walk) l′ r′ d) (moved s l′ r′) ≡ steppedOn (m - k) w l r d
+step-leaves m k w l r d l′ r′ s p h e q =
+    on-step (m - (k + 1)) w l r d l′ r′ s p e q ∙ ap (λ (n : ℕ). steppedOn n w l r d) (count-down m k h)
 
 pub none-left : (m k : ℕ) (w : Walk) (l r d : List ℕ) → m ≤ k
     → _≡_ {A = Moved} (record { walk = w; left = l; right = r }) (steppedOn (m - k) w l r d)

@@ -4,8 +4,9 @@ use Prim.Native.Nat.{_-_, _≤_}
 use mathlib.Core.Path.{_≡_, refl, _∙_}
 use native.Mathlib.Omega.{arith}
 use lib.ListN.{length}
+use Rattle.walks.specs.declared.Progress.the-variants.{Made, Ended, Unfit}
 use Rattle.boards.specs.Boards.{steppedOn}
-use Rattle.boards.proofs.Laws.{step-made, step-ended, step-unfit, none-left, all-left}
+use Rattle.boards.proofs.Laws.{step-leaves, none-left, all-left}
 use borrow.Author.Needs.{needs}
 use Rattle.boards.proofs.steps.Statement.{statement}
 use Rattle.boards.proofs.steps.Tie as tie
@@ -49,8 +50,8 @@ returns c =
     let step = c .before .before .before .before .before .before .before in
     let loop = step .before .before .before .before in
     let a = loop .before .before .before .before .args in
-    step-ended (a .count) (loop .loop .counter) (loop .loop .now) (loop .loop .left) (loop .loop .right) (a .«data» .now) _ _
-    (step .step .result) (omega arith) (step .step .ensures) (c .enum-told2 .given .1)
+    step-leaves (a .count) (loop .loop .counter) (loop .loop .now) (loop .loop .left) (loop .loop .right) (a .«data» .now) _ _
+    (step .step .result) Ended (omega arith) (step .step .ensures) (c .enum-told2 .given .1)
     ∙ loop .loop .inv .3
 
 enum-told-3 : tie.Need-enum-told-3 Inv-loop μ-loop
@@ -71,8 +72,8 @@ returns-2 c =
     let step = c .before .before .before .before .before .before .before in
     let loop = step .before .before .before .before in
     let a = loop .before .before .before .before .args in
-    step-unfit (a .count) (loop .loop .counter) (loop .loop .now) (loop .loop .left) (loop .loop .right) (a .«data» .now) _ _
-    (step .step .result) (omega arith) (step .step .ensures) (c .enum-told3 .given .1)
+    step-leaves (a .count) (loop .loop .counter) (loop .loop .now) (loop .loop .left) (loop .loop .right) (a .«data» .now) _ _
+    (step .step .result) Unfit (omega arith) (step .step .ensures) (c .enum-told3 .given .1)
     ∙ loop .loop .inv .3
 
 add-counter : tie.Need-add-counter Inv-loop μ-loop
@@ -91,8 +92,8 @@ loop-again c =
       omega arith,
       step .step .kept .1 .0 ∙ loop .loop .inv .1,
       step .step .kept .1 .1 .0 ∙ loop .loop .inv .2,
-      step-made (a .count) (loop .loop .counter) (loop .loop .now) (loop .loop .left) (loop .loop .right)
-          (a .«data» .now) _ _ (step .step .result) (omega arith) (step .step .ensures)
+      step-leaves (a .count) (loop .loop .counter) (loop .loop .now) (loop .loop .left) (loop .loop .right)
+          (a .«data» .now) _ _ (step .step .result) Made (omega arith) (step .step .ensures)
           (c .enum-told .given .1)
           ∙ loop .loop .inv .3,
     )

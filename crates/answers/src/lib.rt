@@ -1,83 +1,13 @@
-// What the board answers to the calls of a script, in words. The lines are in docs/FORMATS.md.
+// A walk of a script in words: how many steps it has, a step that was made, a cut. The lines are in
+// docs/FORMATS.md.
 use flash::Cell;
 use pages::ImageOffset;
 use pages::Side;
 use plans::Spot;
-use reads::Reading;
 use steps::Step;
 use walks::Walk;
 ghost use mathlib.Core.Path.{_≡_};
 ghost use Rattle.plans.specs.Counts.{stepCount};
-
-// ---- numbers and bytes
-fn meaning(number: u8) {
-    match number {
-        1 => prints::text(b"the pages have no legal length"),
-        2 => prints::text(b"the offset or the length is odd"),
-        3 => prints::text(b"the offset is below 4"),
-        4 => prints::text(b"past the end of the page"),
-        5 => prints::text(b"no page is live"),
-        _ => prints::text(b"the step doesn't fit, nothing is changed"),
-    }
-}
-
-fn number(refusal: u8) {
-    prints::labelled(b"  number ", refusal as u64);
-    prints::text(b": ");
-    meaning(refusal);
-}
-
-// Prints that a call is refused with one of document 01's numbers.
-pub fn refused(refusal: u8) {
-    number(refusal);
-    prints::text(b"\n");
-}
-
-// Prints a byte, with a blank before it unless it is the first.
-fn byte(b: u8, first: bool) {
-    if !first {
-        prints::text(b" ");
-    }
-    prints::hex(b as u64, 2);
-}
-
-fn bytes(part: &[u8]) {
-    if part.len() == 0 {
-        prints::text(b"no bytes");
-    }
-    for i in 0..part.len() {
-        byte(part[i], i == 0);
-    }
-}
-
-fn given(part: &[u8]) {
-    prints::text(b"  given: ");
-    bytes(part);
-    prints::text(b"\n");
-}
-
-// Prints the answer to a read, with the part that it gives.
-pub fn read(reading: Reading, part: &[u8]) {
-    let refusal = reading.number();
-    if refusal == 0 {
-        given(part);
-    } else {
-        refused(refusal);
-    }
-}
-
-// Prints the answer to a copy, with what its output then holds.
-pub fn copy(reading: Reading, output: &[u8]) {
-    let refusal = reading.number();
-    if refusal == 0 {
-        given(output);
-    } else {
-        number(refusal);
-        prints::text(b"; the output holds ");
-        bytes(output);
-        prints::text(b"\n");
-    }
-}
 
 // ---- walks
 // How many steps a walk has.
@@ -100,7 +30,7 @@ fn spot(walk: Walk, place: u32) -> Spot {
 fn decides(walk: Walk, place: u32) -> bool {
     match spot(walk, place) {
         Spot::Fixed(entry) => entry.commits,
-        Spot::Cell(_, _, _, _) => false,
+        Spot::Cell(_, _, _) => false,
         Spot::Beyond => false,
     }
 }
@@ -131,14 +61,9 @@ pub fn counts(walk: Walk) {
 }
 
 // ---- a step
-// The number of an image cell of a page.
+// The number of an image cell of a page, FFFF where it has none.
 fn value_at(page: &[u8], at: ImageOffset) -> u16 {
-    let start = pages::MANAGEMENT_SIZE as usize;
-    let size = page.len();
-    if size < start {
-        return 65535;
-    }
-    match flash::cell_at(&page[start..size], at.0 as usize) {
+    match flash::cell_at(page, at.to_page().0 as usize) {
         Cell::Holds(value) => value,
         Cell::Outside => 65535,
     }
@@ -162,7 +87,7 @@ fn made(spot: Spot, left: &[u8], right: &[u8]) {
                 prints::text(b", the deciding store");
             }
         }
-        Spot::Cell(_, side, _, at) => {
+        Spot::Cell(_, side, at) => {
             views::step(Step::Image(side, at, value_on(side, left, right, at)))
         }
         Spot::Beyond => {}

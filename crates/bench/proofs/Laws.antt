@@ -11,6 +11,7 @@ use lib.ListN.{length, getD, List·getD-eq-default}
 use borrow.Author.Tests.{ltb-true, ltb-false}
 use Rattle.flash.specs.Flash.{Outcome}
 use Rattle.pages.specs.declared.State.{State}
+use Rattle.pages.specs.declared.PageOffset.{PageOffset}
 use Rattle.reads.specs.declared.Reading.{Reading}
 use Rattle.reads.specs.Reads.{numberIn}
 use Rattle.requests.specs.declared.Refusal.{Refusal}
@@ -29,8 +30,8 @@ use Rattle.bench.specs.Calls.{seen, keptIn, startIn, states, stateFrom, 
 
 -- a part by its length and first byte
 pub part-seen : (part of : List ℕ) (first : ℕ) → first ≡ getD part 0 0 → part ≡ of
-    → _≡_ {A = Part} (record { length = length part; first = first }) (seen of)
-part-seen part of first e h = (λ i. record { length = length part; first = e i }) ∙ ap seen h
+    → _≡_ {A = Part} (record { len = length part; first = first }) (seen of)
+part-seen part of first e h = (λ i. record { len = length part; first = e i }) ∙ ap seen h
 
 -- a copying read whose number was widened
 pub copied : (wide number : ℕ) (reading : Reading) (out : List ℕ) (o : Outcome) → wide ≡ number
@@ -44,7 +45,8 @@ pub begun-as : (b : Begun) (w : Walk) (s : Start) (o : Beginning) → beginningI
     → s ≡ keptIn w → s ≡ startIn o
 begun-as b w s o e h f = f ∙ ap (λ (x : Begun). startIn (beginningIn x)) (sym h) ∙ ap startIn e
 
-pub refused-as : (b : Begun) (why : Refusal) (k : ℕ) (o : Beginning) → beginningIn b ≡ o → b ≡ B.the-variants.Refused why
+pub refused-as : (b : Begun) (why : Refusal) (k : ℕ) (o : Beginning) → beginningIn b ≡ o
+    → b ≡ B.the-variants.Refused why
     → k ≡ numberOf why → _≡_ {A = Start} (record { number = k; line = 0; erased = false }) (startIn o)
 refused-as b why k o e h f =
     ap (λ (n : ℕ). startIn (W.refused n)) f
@@ -83,8 +85,8 @@ code-said Ended = refl
 code-said Unfit = refl
 
 -- a step of the walk that keeps the numbers
-pub step-as : (found : Option State) (state : State) (erased : Bool) (page offset n place : ℕ) (l r d l′ r′ : List ℕ)
-    (code : ℕ) (s : S.Stepped) → found ≡ some state → code ≡ codeOf (s .progress)
+pub step-as : (found : Option State) (state : State) (erased : Bool) (page : ℕ) (offset : PageOffset) (n place : ℕ)
+    (l r d l′ r′ : List ℕ) (code : ℕ) (s : S.Stepped) → found ≡ some state → code ≡ codeOf (s .progress)
     → _≡_ {A = W.Outcome} (record { said = saidIn (s .progress); walk = s .walk; left = l′; right = r′ })
     (stepOf (walkOf state erased page offset n place) l r d)
     → _≡_ {A = Stepped} (record { code = code; place = s .walk .place; left = l′; right = r′ })
@@ -94,7 +96,8 @@ step-as found state erased page offset n place l r d l′ r′ code s q h e =
     ∙ ap stepAs e
     ∙ ap (λ (x : Option State). stepIn x erased page offset n place l r d) (sym q)
 
-pub step-none : (found : Option State) (erased : Bool) (page offset n place : ℕ) (l r d : List ℕ) → found ≡ none
+pub step-none : (found : Option State) (erased : Bool) (page : ℕ) (offset : PageOffset) (n place : ℕ) (l r d : List ℕ)
+    → found ≡ none
     → _≡_ {A = Stepped} (record { code = 6; place = place; left = l; right = r })
     (stepIn found erased page offset n place l r d)
 step-none found erased page offset n place l r d q =

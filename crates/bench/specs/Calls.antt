@@ -8,6 +8,7 @@ use mathlib.Core.Option.{Option, none, some}
 use lib.ListN.{length, getD}
 use Rattle.pages.specs.declared.State.{State}
 use Rattle.pages.specs.declared.State.the-variants.{S0, S1, S2, S3, S5, S6, S7, S8, S9, S10}
+use Rattle.pages.specs.declared.PageOffset.{PageOffset}
 use Rattle.pages.specs.Pages.{lineOf}
 use Rattle.plans.specs.declared.Request.the-variants.{Save}
 use Rattle.walks.specs.declared.Walk.{Walk}
@@ -22,7 +23,7 @@ use Rattle.bench.specs.declared.LineState.{LineState}
 
 -- a part, by its length and first byte
 abbrev pub seen : List ℕ → Part
-seen part = record { length = length part; first = getD part 0 0 }
+seen part = record { len = length part; first = getD part 0 0 }
 
 -- ---- a beginning
 -- what a walk keeps that its caller didn't give
@@ -75,15 +76,15 @@ pub record Stepped : Type 0 where
   pub left : List ℕ
   pub right : List ℕ
 
--- the step of the save that keeps these numbers
-abbrev pub walkOf : State → Bool → ℕ → ℕ → ℕ → ℕ → Walk
+-- the save that keeps this state and erased-or-not, P, offset, length and place
+abbrev pub walkOf : State → Bool → ℕ → PageOffset → ℕ → ℕ → Walk
 walkOf state erased page offset n place =
     record {
       request = Save;
       start = state;
       erased = erased;
       page = page;
-      offset = record { 0 = offset };
+      offset = offset;
       len = n;
       place = place;
     }
@@ -91,10 +92,10 @@ walkOf state erased page offset n place =
 abbrev pub stepAs : W.Outcome → Stepped
 stepAs o = record { code = saidCode (o .said); place = o .walk .place; left = o .left; right = o .right }
 
-abbrev pub stepIn : Option State → Bool → ℕ → ℕ → ℕ → ℕ → List ℕ → List ℕ → List ℕ → Stepped
+abbrev pub stepIn : Option State → Bool → ℕ → PageOffset → ℕ → ℕ → List ℕ → List ℕ → List ℕ → Stepped
 stepIn none erased page offset n place l r d = record { code = 6; place = place; left = l; right = r }
 stepIn (some state) erased page offset n place l r d =
     stepAs (stepOf (walkOf state erased page offset n place) l r d)
 
-abbrev pub stepFrom : ℕ → Bool → ℕ → ℕ → ℕ → ℕ → List ℕ → List ℕ → List ℕ → Stepped
+abbrev pub stepFrom : ℕ → Bool → ℕ → PageOffset → ℕ → ℕ → List ℕ → List ℕ → List ℕ → Stepped
 stepFrom line erased page offset n place l r d = stepIn (stateFrom line) erased page offset n place l r d

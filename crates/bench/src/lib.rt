@@ -29,7 +29,7 @@ ghost use Rattle.bench.specs.Calls.{
 // A part that was read: how many bytes, and the first of them; 0 where there is none.
 #[repr(C)]
 pub struct Part {
-    pub length: usize,
+    pub len: usize,
     pub first: u8,
 }
 
@@ -63,14 +63,14 @@ pub extern "C" fn bench_erased(page: &[u8]) -> bool
 }
 
 #[no_mangle]
-pub extern "C" fn bench_part<'a>(left: &'a [u8], right: &'a [u8], offset: u32, length: u32) -> Part
+pub extern "C" fn bench_part<'a>(left: &'a [u8], right: &'a [u8], offset: u32, len: u32) -> Part
     ensures { λ r.
-        ⌜ r ≡ seen (readPart (now (left .entry)) (now (right .entry)) offset length) ⌝ }
+        ⌜ r ≡ seen (readPart (now (left .entry)) (now (right .entry)) (record { 0 = offset }) len) ⌝ }
 {
-    let part = reads::read(left, right, PageOffset(offset), length);
+    let part = reads::read(left, right, PageOffset(offset), len);
     let first = first_of(part);
     Part {
-        length: part.len(),
+        len: part.len(),
         first: first,
     }
 }
@@ -84,7 +84,11 @@ pub extern "C" fn bench_copy<'a>(
 ) -> u32
     ensures { λ r.
         ⌜ _≡_ {A = Outcome} (record { number = r; bytes = now (out .exit) })
-        (filled (now (left .entry)) (now (right .entry)) offset (now (out .entry))) ⌝ }
+        (filled
+        (now (left .entry))
+        (now (right .entry))
+        (record { 0 = offset })
+        (now (out .entry))) ⌝ }
 {
     let reading = reads::read_into(left, right, PageOffset(offset), out);
     wide(reading.number())
@@ -165,7 +169,7 @@ pub extern "C" fn bench_step(
     erased: bool,
     page: u32,
     offset: u32,
-    length: u32,
+    len: u32,
     place: &mut u32,
     left: &mut [u8],
     right: &mut [u8],
@@ -179,7 +183,7 @@ pub extern "C" fn bench_step(
           left = now (left .exit);
           right = now (right .exit);
         })
-        (stepFrom line erased page offset length
+        (stepFrom line erased page (record { 0 = offset }) len
         (now (place .entry))
         (now (left .entry))
         (now (right .entry))
@@ -196,7 +200,7 @@ pub extern "C" fn bench_step(
                 erased: erased,
                 page: page,
                 offset: start,
-                len: length,
+                len: len,
                 place: at,
             };
             let stepped = walk.step(left, right, data);

@@ -25,6 +25,6 @@ pub extern "C" fn bench_format(left: &mut [u8], right: &mut [u8]) -> Whole
         []) ⌝ }
 {
     let begun = Walk::format(left, right);
-    let none = [0; 0];
-    bench_walks::walk(begun, left, right, &none)
+    let empty = [0; 0];
+    bench_walks::walk(begun, left, right, &empty)
 }

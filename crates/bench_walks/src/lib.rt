@@ -5,10 +5,9 @@
 // What each answer means is in specs/Whole.antt.
 use walks::Begun;
 use walks::Progress;
-use walks::Walk;
 ghost use mathlib.Core.Path.{_≡_};
-ghost use Rattle.walks.specs.Walks.{beginningIn};
-ghost use Rattle.bench_walks.specs.Whole.{Walked, walkedOn, walked};
+ghost use Rattle.walks.specs.Walks.{saidIn, beginningIn};
+ghost use Rattle.bench_walks.specs.Whole.{numberSaid, Walked, walked};
 
 // More steps than any walk makes: (P - 4) / 2 + 6 at P = 4,096, and one to be told the end.
 const MOST_STEPS: u32 = 2053;
@@ -20,63 +19,14 @@ pub struct Whole {
     pub steps: u32,
 }
 
-// Steps a walk to its end. Only its place moves, so only that is carried from step to step. The walk
-// is put together from its fields: copied whole, it would be loaded in one piece right after its
-// small fields were stored, for which the processor waits.
-fn walk_on(walk: Walk, left: &mut [u8], right: &mut [u8], data: &[u8]) -> Whole
-    ensures { λ r.
-        ⌜ _≡_ {A = Walked}
-        (record {
-          number = r .number;
-          steps = r .steps;
-          left = now (left .exit);
-          right = now (right .exit);
-        })
-        (walkedOn 2053 0 walk
-        (now (left .entry))
-        (now (right .entry))
-        (now («data» .entry))) ⌝ }
+// The number of a walk by what its last step said: 0 where it has ended.
+fn last_number(progress: Progress) -> u32
+    ensures { λ r. ⌜ r ≡ numberSaid (saidIn progress) ⌝ }
 {
-    let request = walk.request;
-    let start = walk.start;
-    let offset = walk.offset;
-    let mut place = walk.place;
-    let mut made: u32 = 0;
-    while made < MOST_STEPS {
-        let here = Walk {
-            request: request,
-            start: start,
-            erased: walk.erased,
-            page: walk.page,
-            offset: offset,
-            len: walk.len,
-            place: place,
-        };
-        let stepped = here.step(left, right, data);
-        let progress = stepped.progress;
-        match progress {
-            Progress::Ended => {
-                return Whole {
-                    number: 0,
-                    steps: made,
-                };
-            }
-            Progress::Unfit => {
-                return Whole {
-                    number: 6,
-                    steps: made,
-                };
-            }
-            Progress::Made => {
-                let next = stepped.walk;
-                place = next.place;
-                made += 1;
-            }
-        }
-    }
-    Whole {
-        number: 6,
-        steps: made,
+    match progress {
+        Progress::Ended => 0,
+        Progress::Made => 6,
+        Progress::Unfit => 6,
     }
 }
 
@@ -96,7 +46,15 @@ pub fn walk(begun: Begun, left: &mut [u8], right: &mut [u8], data: &[u8]) -> Who
         (now («data» .entry))) ⌝ }
 {
     match begun {
-        Begun::On(walk) => walk_on(walk, left, right, data),
+        Begun::On(walk) => {
+            let ran = walk.run(MOST_STEPS, left, right, data);
+            let progress = ran.progress;
+            let number = last_number(progress);
+            Whole {
+                number: number,
+                steps: ran.steps,
+            }
+        }
         Begun::Refused(why) => {
             let number = why.number();
             let wide = number as u32;

@@ -1,214 +1,308 @@
--- Laws of the board between two calls of a script.
--- In order: what a read of the whole image gives; the data of a line; beginnings; steps; calls.
+-- Calls as the code makes them are the model's.
+-- In order: beginnings; steps; reads; a cut.
 -- Assumes nothing.
-use Prim.Native.Nat.{ℕ, suc, _+_, _-_, _<_, _≤_}
-use mathlib.Core.Path.{_≡_, refl, sym, ap, _∙_}
-use mathlib.Core.Bool.{Bool, true, false, cond, not}
-use mathlib.Core.List.{List, [], _++_}
+use Prim.Native.Nat.{ℕ, zero, suc, _+_, _-_}
+use mathlib.Core.Path.{_≡_, refl, sym, ap, ap₂, subst, _∙_}
+use mathlib.Core.Bool.{Bool, true, false, cond}
+use mathlib.Core.List.{List, [], _∷_, _++_}
+use mathlib.Core.Option.{Option, none, some}
 use native.Mathlib.Omega.{arith}
-use lib.Dec.{eqb, leb}
-use lib.ListN.{length, take, drop}
-use lib.Seq.{take-at}
-use borrow.Author.Tests.{eqb-true, eq-eqb, ne-eqb, not-true, not-false}
-use Rattle.requests.proofs.Laws.{Legal, legal}
-use Rattle.reads.specs.Reads.{liveNumber, readNumber, readPart, livePage}
-use Rattle.pages.specs.Pages.{statusOf}
-use Rattle.texts.specs.declared.Call as C
-use Rattle.texts.specs.declared.Call.{Call}
-use Rattle.texts.specs.Texts.{Decoded, lineAt, wordAt, bytesOf, decoded, callOf}
+use lib.Dec.{eqb}
+use lib.ListN.{replicate}
+use Rattle.flash.specs.Flash.{Outcome as Filled}
+use Rattle.pages.specs.declared.PageOffset.{PageOffset}
+use Rattle.reads.specs.Reads.{readNumber, readPart, filled}
 use Rattle.walks.specs.declared.Walk.{Walk}
-use Rattle.walks.specs.declared.Begun as B
 use Rattle.walks.specs.declared.Begun.{Begun}
+use Rattle.walks.specs.declared.Begun as G
 use Rattle.walks.specs.declared.Progress.{Progress}
-use Rattle.walks.specs.declared.Stepped as S
-use Rattle.walks.specs.Walks.{Beginning, beginSave, beginFormat, beginningIn, Outcome, saidIn, stepOf}
-use Rattle.boards.specs.declared.Hand as H
-use Rattle.boards.specs.declared.Board.{Board}
+use Rattle.walks.specs.declared.Progress as P
+use Rattle.walks.specs.declared.Ran as R
+use Rattle.walks.specs.Walks as W
+use Rattle.walks.specs.Walks.{
+  beginningIn,
+  beginSave,
+  beginFormat,
+  saidIn,
+  Said,
+  Outcome,
+  stepOf,
+  kept,
+  Course,
+  oneMore,
+  ifMade,
+  runOf,
+}
+use Rattle.walks.proofs.Runs.{unmade-keeps, course}
+use Rattle.model.specs.Calls as C
+use Rattle.model.specs.Board as B
+use Rattle.model.specs.Board.{Board, afterBegin, answerOf, handed, afterStep, partRead, turn, answers, boardAfter}
+use Rattle.boards.specs.declared.Hand.{Hand}
+use Rattle.boards.specs.declared.Hand.the-variants.{Empty, Holding}
+use Rattle.boards.specs.declared.Call.{Call}
+use Rattle.boards.specs.declared.Call.the-variants.{Save, Format, Step, Read, ReadInto, Cut}
+use Rattle.boards.specs.declared.Answer.{Answer}
+use Rattle.boards.specs.declared.Answer as A
+use Rattle.boards.specs.declared.Turn.{Turn}
 use Rattle.boards.specs.Boards.{
-  dataOf,
-  idle,
-  taken,
-  Moved,
-  onMade,
-  steppedOn,
-  digitsOf,
-  Placed,
-  handStepped,
-  called,
+  boardIn,
+  answerIn,
+  answersIn,
+  heldAfter,
+  begunTurn,
+  progressAnswer,
+  readAnswer,
+  Made,
+  turnIn,
   madeOn,
+  Steps,
 }
 
--- ---- a read of the whole image
--- pages of which a read is refused show nothing
-pub shows-nothing : (l r : List ℕ) (o n : ℕ) → (Legal (length l) (length r) o n → ⊥) → [] ≡ readPart l r o n
-unfolding readPart readNumber
-shows-nothing l r o n h = go (eqb (readNumber l r o n) 0) refl
-  where
-    go : (t : Bool) → eqb (readNumber l r o n) 0 ≡ t
-        → [] ≡ cond t (take n (drop o (livePage (statusOf l r .live) l r))) []
-    go true e =
-        absurd (h (legal (length l) (length r) o n (liveNumber (statusOf l r .live)) (eqb-true (readNumber l r o n) 0 e) .0))
-    go false e = refl
-
--- ---- the data of a line
-pub data-decoded : (digits buffer after : List ℕ) (n : ℕ) → length buffer ≡ 4096
-    → _≡_ {A = Decoded} (record { count = n; buffer = after }) (decoded digits buffer)
-    → take (n - 0) (drop 0 after) ≡ dataOf digits
-unfolding decoded dataOf
-data-decoded digits buffer after n h e = go (leb (length (bytesOf digits)) 4096) refl
-  where
-    bytes : List ℕ
-    bytes = bytesOf digits
-
-    put : Bool → Decoded
-    put t =
-        cond t (record { count = length bytes; buffer = bytes ++ drop (length bytes) buffer })
-        (record { count = 0; buffer = buffer })
-
-    same : (t : Bool) → leb (length bytes) 4096 ≡ t → _≡_ {A = Decoded} (record { count = n; buffer = after }) (put t)
-    same t q = e ∙ ap (λ (k : ℕ). put (leb (length bytes) k)) h ∙ ap put q
-
-    part : Decoded → List ℕ
-    part x = take (x .count - 0) (x .buffer)
-
-    go : (t : Bool) → leb (length bytes) 4096 ≡ t → take (n - 0) after ≡ cond t bytes []
-    go true q =
-        let k : length bytes - 0 ≡ length bytes = omega arith in
-        ap part (same true q)
-        ∙ ap (λ (m : ℕ). take m (bytes ++ drop (length bytes) buffer)) k
-        ∙ take-at bytes (drop (length bytes) buffer) (length bytes) refl
-    go false q = ap part (same false q)
-
-pub digits-held : (text line held first : List ℕ) (own : Bool) (board : Board) → held ≡ wordAt 2 first
-    → first ≡ lineAt text (board .at) → not own ≡ true → held ≡ digitsOf text line own board
-unfolding digitsOf
-digits-held text line held first own board e f h =
-    e ∙ ap (wordAt 2) f ∙ sym (simp (not-true own h))
-
-pub digits-same : (text line held first given : List ℕ) (own : Bool) (board : Board) → held ≡ wordAt 2 first
-    → first ≡ lineAt text (board .at) → given ≡ wordAt 2 line → not own ≡ false → length given ≡ length held
-    → held ≡ digitsOf text line own board
-unfolding digitsOf
-digits-same text line held first given own board e f g h k =
-    let p : held ≡ wordAt 2 (lineAt text (board .at)) = e ∙ ap (wordAt 2) f in
-    let q : length (wordAt 2 line) ≡ length (wordAt 2 (lineAt text (board .at))) =
-    sym (ap length g) ∙ k ∙ ap length p in
-    p ∙ sym (simp (not-false own h, eq-eqb (length (wordAt 2 line)) (length (wordAt 2 (lineAt text (board .at)))) q))
-
-pub digits-given : (text line held first given : List ℕ) (own : Bool) (board : Board) → held ≡ wordAt 2 first
-    → first ≡ lineAt text (board .at) → given ≡ wordAt 2 line → not own ≡ false → (length given ≡ length held → ⊥)
-    → given ≡ digitsOf text line own board
-unfolding digitsOf
-digits-given text line held first given own board e f g h k =
-    let p : held ≡ wordAt 2 (lineAt text (board .at)) = e ∙ ap (wordAt 2) f in
-    g
-    ∙ sym (simp (
-      not-false own h,
-      ne-eqb (length (wordAt 2 line)) (length (wordAt 2 (lineAt text (board .at))))
-          (λ q. k (ap length g ∙ q ∙ sym (ap length p))),
-    ))
-
 -- ---- beginnings
-pub taken-as : (b c : Begun) (at : ℕ) (board next : Board) → b ≡ c → next ≡ taken (beginningIn c) at board
-    → next ≡ taken (beginningIn b) at board
-taken-as b c at board next e h = h ∙ ap (λ (x : Begun). taken (beginningIn x) at board) (sym e)
+pub save-made : (o : PageOffset) (hand : Hand) (begun : Begun) (held d l r out : List ℕ) (t : Turn)
+    → beginningIn begun ≡ beginSave l r o d → t ≡ begunTurn hand begun
+    → turnIn (Save o) t held d l r out ≡ madeOn (Save o) (boardIn hand held l r) d out
+unfolding madeOn answers boardAfter turn
+save-made o hand begun held d l r out t e f =
+    ap (λ (u : Turn). turnIn (Save o) u held d l r out) f ∙ go begun
+    ∙ ap
+    (λ (x : W.Beginning).
+    let z = afterBegin (boardIn hand held l r) d x in
+    record { answers = z .answer ∷ []; board = z .board; out = out })
+    e
+  where
+    go : (x : Begun)
+        → turnIn (Save o) (begunTurn hand x) held d l r out
+        ≡ (let z = afterBegin (boardIn hand held l r) d (beginningIn x) in
+        record { answers = z .answer ∷ []; board = z .board; out = out })
+    go (G.the-variants.On w) = refl
+    go (G.the-variants.Refused why) = refl
+
+pub format-made : (hand : Hand) (begun : Begun) (held d l r out : List ℕ) (t : Turn)
+    → beginningIn begun ≡ beginFormat l r → t ≡ begunTurn hand begun
+    → turnIn Format t held d l r out ≡ madeOn Format (boardIn hand held l r) d out
+unfolding madeOn answers boardAfter turn
+format-made hand begun held d l r out t e f =
+    ap (λ (u : Turn). turnIn Format u held d l r out) f ∙ go begun
+    ∙ ap
+    (λ (x : W.Beginning).
+    let z = afterBegin (boardIn hand held l r) [] x in
+    record { answers = z .answer ∷ []; board = z .board; out = out })
+    e
+  where
+    go : (x : Begun)
+        → turnIn Format (begunTurn hand x) held d l r out
+        ≡ (let z = afterBegin (boardIn hand held l r) [] (beginningIn x) in
+        record { answers = z .answer ∷ []; board = z .board; out = out })
+    go (G.the-variants.On w) = refl
+    go (G.the-variants.Refused why) = refl
 
 -- ---- steps
--- the outcome of a step as the code has it
-abbrev pub outcome : S.Stepped → List ℕ → List ℕ → Outcome
-outcome s l r = record { said = saidIn (s .progress); walk = s .walk; left = l; right = r }
+-- a call that changes nothing is answered alike each time
+pub repeats : (n : ℕ) (b : Board) (c : C.Call) → turn b c .board ≡ b
+    → (answers b (replicate n c) ≡ replicate n (turn b c .answer)) × (boardAfter b (replicate n c) ≡ b)
+unfolding answers boardAfter
+repeats zero b c e = (refl, refl)
+repeats (suc n) b c e =
+    let again = repeats n b c e in (
+      ap (λ (z : Board). turn b c .answer ∷ answers z (replicate n c)) e
+          ∙ ap (λ (xs : List C.Answer). turn b c .answer ∷ xs) (again .0),
+      ap (λ (z : Board). boardAfter z (replicate n c)) e ∙ again .1,
+    )
 
-abbrev moved : S.Stepped → List ℕ → List ℕ → Moved
-moved s l r = record { walk = s .walk; left = l; right = r }
+-- the answers of a run, and the board after it
+abbrev runAnswers : ℕ → Course → List C.Answer
+runAnswers n c = answersIn n (c .steps) (answerOf (c .said))
 
-on-step : (n : ℕ) (w : Walk) (l r d l′ r′ : List ℕ) (s : S.Stepped) (p : Progress) → outcome s l′ r′ ≡ stepOf w l r d
-    → s .progress ≡ p
-    → onMade (saidIn p) (steppedOn n (s .walk) l′ r′ d) (moved s l′ r′) ≡ steppedOn (suc n) w l r d
-unfolding steppedOn
-on-step n w l r d l′ r′ s p e q =
-    ap (λ (x : Progress). onMade (saidIn x) (steppedOn n (s .walk) l′ r′ d) (moved s l′ r′)) (sym q)
-    ∙ ap (λ (o : Outcome).
-    onMade (o .said) (steppedOn n (o .walk) (o .left) (o .right) d)
-    (record { walk = o .walk; left = o .left; right = o .right })) e
-
-count-down : (m k : ℕ) → k < m → suc (m - (k + 1)) ≡ m - k
-count-down m k h = omega arith
-
--- what a step leaves, with the steps that are left counted down: the rest of the walk where it is made
-pub step-leaves : (m k : ℕ) (w : Walk) (l r d l′ r′ : List ℕ) (s : S.Stepped) (p : Progress) → k < m
-    → outcome s l′ r′ ≡ stepOf w l r d → s .progress ≡ p
-    → onMade (saidIn p) (steppedOn (m - (k + 1)) (s .walk) l′ r′ d) (moved s l′ r′) ≡ steppedOn (m - k) w l r d
-step-leaves m k w l r d l′ r′ s p h e q =
-    on-step (m - (k + 1)) w l r d l′ r′ s p e q ∙ ap (λ (n : ℕ). steppedOn n w l r d) (count-down m k h)
-
-pub none-left : (m k : ℕ) (w : Walk) (l r d : List ℕ) → m ≤ k
-    → _≡_ {A = Moved} (record { walk = w; left = l; right = r }) (steppedOn (m - k) w l r d)
-unfolding steppedOn
-none-left m k w l r d h =
-    let z : 0 ≡ m - k = omega arith in
-    ap (λ (n : ℕ). steppedOn n w l r d) z
-
-pub all-left : (m : ℕ) (w : Walk) (l r d : List ℕ) → steppedOn (m - 0) w l r d ≡ steppedOn m w l r d
-all-left m w l r d =
-    let z : m - 0 ≡ m = omega arith in
-    ap (λ (n : ℕ). steppedOn n w l r d) z
-
-pub hand-empty : (n : ℕ) (d l r : List ℕ) (h : H.Hand) (board : Board) → h ≡ H.the-variants.Empty
-    → _≡_ {A = Placed} (record { board = board; left = l; right = r }) (handStepped n d h l r board)
-hand-empty n d l r h board e = ap (λ (x : H.Hand). handStepped n d x l r board) (sym e)
-
-pub hand-on : (n : ℕ) (d d′ l r l′ r′ : List ℕ) (h : H.Hand) (w w′ : Walk) (board : Board) → h ≡ H.the-variants.On w
-    → d′ ≡ d → _≡_ {A = Moved} (record { walk = w′; left = l′; right = r′ }) (steppedOn n w l r d′)
-    → _≡_ {A = Placed}
-    (record { board = record { hand = H.the-variants.On w′; at = board .at }; left = l′; right = r′ })
-    (handStepped n d h l r board)
-hand-on n d d′ l r l′ r′ h w w′ board e p q =
-    ap (λ (m : Moved).
+abbrev runBoard : List ℕ → Course → Board
+runBoard held c =
     record {
-      board = record { hand = H.the-variants.On (m .walk); at = board .at };
-      left = m .left;
-      right = m .right;
-    }) (q ∙ ap (steppedOn n w l r) p)
-    ∙ ap (λ (x : H.Hand). handStepped n d x l r board) (sym e)
+      left = c .left;
+      right = c .right;
+      hand = some (record { walk = c .walk; held = held });
+    }
 
--- ---- calls
--- what the call of a line leaves, from the call that it was taken for
-pub called-as : (text line : List ℕ) (at : ℕ) (l r : List ℕ) (board : Board) (call taken-for : Call) (x : Placed)
-    → line ≡ lineAt text at → call ≡ callOf line → call ≡ taken-for → x ≡ called taken-for text at l r board
-    → x ≡ madeOn text at l r board
+abbrev Runs : ℕ → Walk → List ℕ → List ℕ → List ℕ → List ℕ → Type 0
+Runs n w held d l r =
+    let b = boardIn (Holding w) held l r in
+    let c = runOf n w l r (handed held d) in
+    (answers b (replicate n (C.step d)) ≡ runAnswers n c)
+    × (boardAfter b (replicate n (C.step d)) ≡ runBoard held c)
+
+-- a step that isn't made
+unmade : (n : ℕ) (w : Walk) (held d l r : List ℕ) (o : Outcome) → o ≡ stepOf w l r (handed held d)
+    → (o .said ≡ W.made → ⊥)
+    → let b = boardIn (Holding w) held l r in
+    (answers b (replicate n (C.step d)) ≡ replicate n (answerOf (o .said)))
+    × (boardAfter b (replicate n (C.step d)) ≡ runBoard held
+    (record { said = o .said; steps = 0; walk = o .walk; left = o .left; right = o .right }))
+unfolding turn
+unmade n w held d l r o e h =
+    let x = handed held d in
+    let keeps : stepOf w l r x ≡ kept (stepOf w l r x .said) w l r =
+    unmade-keeps w l r x (λ z. h (ap (λ (y : Outcome). y .said) e ∙ z)) in
+    let b = boardIn (Holding w) held l r in
+    let same = repeats n b (C.step d) (ap (λ (y : Outcome). afterStep held y .board) keeps) in
+    let here : o ≡ kept (stepOf w l r x .said) w l r = e ∙ keeps in (
+      same .0 ∙ ap (λ (y : Outcome). replicate n (answerOf (y .said))) (sym e),
+      same .1 ∙ sym (ap (λ (y : Outcome). afterStep held y .board) here),
+    )
+
+-- what a run's answers are after one more step
+more-answers : (n : ℕ) (c : Course) → C.made ∷ runAnswers n c ≡ runAnswers (suc n) (oneMore c)
+more-answers n c =
+    let m : suc (c .steps) ≡ 1 + c .steps = omega arith in
+    let k : n - c .steps ≡ suc n - (1 + c .steps) = omega arith in
+    ap₂ (λ (x y : ℕ). replicate x C.made ++ replicate y (answerOf (c .said))) m k
+
+-- the first step of a run, by what it says
+abbrev stopped : Outcome → Course
+stopped o = record { said = o .said; steps = 0; walk = o .walk; left = o .left; right = o .right }
+
+first : (n : ℕ) (w : Walk) (l r d : List ℕ) (s : Said) → stepOf w l r d .said ≡ s
+    → let o = stepOf w l r d in
+    runOf (suc n) w l r d ≡ ifMade s (oneMore (runOf n (o .walk) (o .left) (o .right) d)) (stopped o)
+unfolding runOf
+first n w l r d s q =
+    let o = stepOf w l r d in
+    ap (λ (x : Said). ifMade x (oneMore (runOf n (o .walk) (o .left) (o .right) d)) (stopped o)) q
+
+stops : (n : ℕ) (w : Walk) (held d l r : List ℕ) → (stepOf w l r (handed held d) .said ≡ W.made → ⊥)
+    → runOf (suc n) w l r (handed held d) ≡ stopped (stepOf w l r (handed held d)) → Runs (suc n) w held d l r
+stops n w held d l r h e =
+    let o = stepOf w l r (handed held d) in
+    let z = unmade (suc n) w held d l r o refl h in
+    let k : suc n ≡ suc n - 0 = omega arith in (
+      z .0 ∙ ap (λ (m : ℕ). replicate m (answerOf (o .said))) k ∙ ap (runAnswers (suc n)) (sym e),
+      z .1 ∙ ap (runBoard held) (sym e),
+    )
+
+ended-unlike : W.ended ≡ W.made → ⊥
+ended-unlike e = let z : _≡_ {A = ℕ} 0 1 = cc in absurd (omega (arith, z))
+
+number-unlike : (k : ℕ) → W.number k ≡ W.made → ⊥
+number-unlike k e = let z : _≡_ {A = ℕ} 0 1 = cc in absurd (omega (arith, z))
+
+runs : (n : ℕ) (w : Walk) (held d l r : List ℕ) → Runs n w held d l r
+unfolding answers boardAfter runOf turn
+runs zero w held d l r = (refl, refl)
+runs (suc n) w held d l r =
+    let o = stepOf w l r (handed held d) in go (o .said) refl (runs n (o .walk) held d (o .left) (o .right))
+  where
+    go : (s : Said) → stepOf w l r (handed held d) .said ≡ s
+        → (let o = stepOf w l r (handed held d) in Runs n (o .walk) held d (o .left) (o .right))
+        → Runs (suc n) w held d l r
+    go W.made q rest =
+        let o = stepOf w l r (handed held d) in
+        let c = runOf n (o .walk) (o .left) (o .right) (handed held d) in
+        let e = sym (first n w l r (handed held d) W.made q) in (
+          ap
+              (λ (x : Said).
+              answerOf x ∷ answers (boardIn (Holding (o .walk)) held (o .left) (o .right)) (replicate n (C.step d)))
+              q
+              ∙ ap (λ (xs : List C.Answer). C.made ∷ xs) (rest .0) ∙ more-answers n c ∙ ap (runAnswers (suc n)) e,
+          rest .1 ∙ ap (runBoard held) e,
+        )
+    go W.ended q rest =
+        stops n w held d l r (λ z. ended-unlike (sym q ∙ z)) (first n w l r (handed held d) W.ended q)
+    go (W.number k) q rest =
+        stops n w held d l r (λ z. number-unlike k (sym q ∙ z)) (first n w l r (handed held d) (W.number k) q)
+
+-- so many steps
+answer-same : (p : Progress) (l r out : List ℕ) → answerIn (progressAnswer p) l r out ≡ answerOf (saidIn p)
+answer-same P.the-variants.Made l r out = refl
+answer-same P.the-variants.Ended l r out = refl
+answer-same P.the-variants.Unfit l r out = refl
+
+still-held : (p : Progress) (own held : List ℕ) → heldAfter (progressAnswer p) own held ≡ held
+still-held P.the-variants.Made own held = refl
+still-held P.the-variants.Ended own held = refl
+still-held P.the-variants.Unfit own held = refl
+
+pub steps-made : (n : ℕ) (hand : Hand) (w : Walk) (x : R.Ran) (held d own l r l′ r′ : List ℕ) (a : Answer)
+    → hand ≡ Holding w → own ≡ handed held d → course x l′ r′ ≡ runOf n w l r own → a ≡ progressAnswer (x .progress)
+    → Steps n (record { hand = Holding (x .walk); made = x .steps; answer = a }) hand held d l r l′ r′
 unfolding madeOn
-called-as text line at l r board call taken-for x e f g h =
-    h ∙ ap (λ (c : Call). called c text at l r board) (sym g ∙ f ∙ ap callOf e)
+steps-made n hand w x held d own l r l′ r′ a eh eo ex ea out =
+    let p = x .progress in
+    let c : course x l′ r′ ≡ runOf n w l r (handed held d) = ex ∙ ap (runOf n w l r) eo in
+    let z = runs n w held d l r in
+    ap (λ (y : Answer). turnIn (Step n) (record {
+      hand = Holding
+          (x .walk);
+      made = x .steps;
+      answer = y;
+    }) held d l′ r′ out)
+    ea
+    ∙ (λ i.
+    record {
+      answers = answersIn n (x .steps) (answer-same p l′ r′ out i);
+      board = boardIn (Holding (x .walk)) (still-held p [] held i) l′ r′;
+      out = out;
+    })
+    ∙ ap (λ (y : Course). record { answers = runAnswers n y; board = runBoard held y; out = out }) c
+    ∙ (λ i. record { answers = sym (z .0) i; board = sym (z .1) i; out = out })
+    ∙ ap (λ (y : Hand). madeOn (Step n) (boardIn y held l r) d out) (sym eh)
 
-placed : (l r : List ℕ) (a b : Board) → a ≡ b
-    → _≡_ {A = Placed} (record { board = a; left = l; right = r }) (record { board = b; left = l; right = r })
-placed l r a b e = λ i. record { board = e i; left = l; right = r }
+pub no-walk : (n : ℕ) (hand : Hand) (held d l r : List ℕ) → hand ≡ Empty
+    → Steps n (record { hand = Empty; made = 0; answer = A.the-variants.Nothing }) hand held d l r l r
+unfolding madeOn turn
+no-walk n hand held d l r eh out =
+    let b = boardIn Empty held l r in
+    let z = repeats n b (C.step d) refl in
+    let k : n - 0 ≡ n = omega arith in
+    ap (λ (m : ℕ). record { answers = replicate m C.nothing; board = b; out = out }) k
+    ∙ (λ i. record { answers = sym (z .0) i; board = sym (z .1) i; out = out })
+    ∙ ap (λ (y : Hand). madeOn (Step n) (boardIn y held l r) d out) (sym eh)
 
-pub save-called : (text line word l r : List ℕ) (at o : ℕ) (board next : Board) (b : Begun) → line ≡ lineAt text at
-    → word ≡ wordAt 2 line → beginningIn b ≡ beginSave l r (record { 0 = o }) (dataOf word)
-    → next ≡ taken (beginningIn b) at board
-    → _≡_ {A = Placed} (record { board = next; left = l; right = r })
-    (called (C.the-variants.Save o) text at l r board)
-save-called text line word l r at o board next b e f g h =
-    placed l r next _
-    (h ∙ ap (λ (x : Beginning). taken x at board)
-    (g ∙ ap (λ (w : List ℕ). beginSave l r (record { 0 = o }) (dataOf w)) (f ∙ ap (wordAt 2) e)))
+-- ---- reads
+pub read-made : (o : PageOffset) (n : ℕ) (hand : Hand) (held d l r out : List ℕ) (a : Answer)
+    → a ≡ readAnswer (readNumber l r o n) o n
+    → turnIn (Read o n) (record { hand = hand; made = 0; answer = a }) held d l r out
+    ≡ madeOn (Read o n) (boardIn hand held l r) d out
+unfolding madeOn answers boardAfter turn
+read-made o n hand held d l r out a e =
+    ap (λ (x : Answer). turnIn (Read o n) (record { hand = hand; made = 0; answer = x }) held d l r out) e
+    ∙ go (eqb (readNumber l r o n) 0)
+  where
+    go : (t : Bool)
+        → turnIn (Read o n)
+        (record {
+          hand = hand;
+          made = 0;
+          answer = cond t (A.the-variants.Part o n) (A.the-variants.Number (readNumber l r o n));
+        })
+        held d l r out
+        ≡ (record {
+          answers = cond t (C.bytes (readPart l r o n)) (C.number (readNumber l r o n)) ∷ [];
+          board = boardIn hand held l r;
+          out = out;
+        })
+    go true = refl
+    go false = refl
 
-pub format-called : (text l r : List ℕ) (at : ℕ) (board next : Board) (b : Begun) → beginningIn b ≡ beginFormat l r
-    → next ≡ taken (beginningIn b) at board
-    → _≡_ {A = Placed} (record { board = next; left = l; right = r })
-    (called C.the-variants.Format text at l r board)
-format-called text l r at board next b g h = placed l r next _ (h ∙ ap (λ (x : Beginning). taken x at board) g)
+pub into-made : (o : PageOffset) (k m : ℕ) (hand : Hand) (held d l r out out′ : List ℕ) → m ≡ k
+    → _≡_ {A = Filled} (record { number = k; bytes = out′ }) (filled l r o out)
+    → turnIn (ReadInto o) (record { hand = hand; made = 0; answer = A.the-variants.Output m }) held d l r out′
+    ≡ madeOn (ReadInto o) (boardIn hand held l r) d out
+unfolding madeOn answers boardAfter turn
+into-made o k m hand held d l r out out′ f e =
+    ap (λ (x : ℕ). record { answers = C.output x out′ ∷ []; board = boardIn hand held l r; out = out′ }) f
+    ∙ ap
+    (λ (x : Filled).
+    record { answers = C.output (x .number) (x .bytes) ∷ []; board = boardIn hand held l r; out = x .bytes })
+    e
 
-pub step-called : (text line digits l r : List ℕ) (at n : ℕ) (own : Bool) (board : Board) (x : Placed)
-    → line ≡ lineAt text at → digits ≡ digitsOf text line own board
-    → x ≡ handStepped n (dataOf digits) (board .hand) l r board
-    → x ≡ called (C.the-variants.Step n own) text at l r board
-step-called text line digits l r at n own board x e f g =
-    g
-    ∙ ap (λ (d : List ℕ). handStepped n (dataOf d) (board .hand) l r board)
-    (f ∙ ap (λ (s : List ℕ). digitsOf text s own board) e)
+-- ---- a cut
+pub cut-made : (hand : Hand) (held d l r out : List ℕ)
+    → turnIn Cut (record { hand = Empty; made = 0; answer = A.the-variants.Nothing }) held d l r out
+    ≡ madeOn Cut (boardIn hand held l r) d out
+unfolding madeOn answers boardAfter turn
+cut-made hand held d l r out = refl
 
-pub cut-called : (text l r : List ℕ) (at : ℕ) (board next : Board) → next ≡ idle
-    → _≡_ {A = Placed} (record { board = next; left = l; right = r }) (called C.the-variants.Cut text at l r board)
-cut-called text l r at board next e = placed l r next idle e
+-- ---- the call that is made
+pub of-call : (call c : Call) (t u : Turn) (b : Board) (held d l r out out′ : List ℕ) → call ≡ c → t ≡ u
+    → turnIn c u held d l r out′ ≡ madeOn c b d out → turnIn call t held d l r out′ ≡ madeOn call b d out
+of-call call c t u b held d l r out out′ e f h =
+    ap (λ (x : Turn). turnIn call x held d l r out′) f
+    ∙ ap (λ (x : Call). turnIn x u held d l r out′) e ∙ h ∙ ap (λ (x : Call). madeOn x b d out) (sym e)

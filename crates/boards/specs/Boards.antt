@@ -1,101 +1,147 @@
--- The board between two calls of a script of text, and each call on it. A script's lines are those
--- of the crate texts.
--- In order: what a read of the whole image gives; the data of a line; beginnings; steps; a call.
--- Not here: what calls answer (walks, reads). Laws: proofs/Laws.antt. Assumes nothing.
-use Prim.Native.Nat.{ℕ, zero, suc, _-_}
-use mathlib.Core.Bool.{Bool, cond}
-use mathlib.Core.List.{List, []}
-use lib.Dec.{eqb, leb}
-use lib.ListN.{length}
-use Rattle.reads.specs.Reads.{readPart}
-use Rattle.texts.specs.declared.Call as C
-use Rattle.texts.specs.declared.Call.{Call}
-use Rattle.texts.specs.Texts.{lineAt, wordAt, bytesOf, callOf}
-use Rattle.walks.specs.declared.Walk.{Walk}
-use Rattle.walks.specs.Walks as W
-use Rattle.walks.specs.Walks.{Beginning, Said, beginSave, beginFormat, stepOf}
-use Rattle.boards.specs.declared.Hand as H
+-- The board as the code has it: the walk in hand by value, the data it was begun with and both pages
+-- lent. Each call is the model's.
+-- In order: the hand; the calls; the answers; what a call gives.
+-- Not here: the board, its calls and answers (the crate model). Laws: proofs/Laws.antt. Assumes
+-- nothing.
+use Prim.Native.Nat.{ℕ, _-_}
+use mathlib.Core.Path.{_≡_}
+use mathlib.Core.Bool.{cond}
+use mathlib.Core.List.{List, [], _∷_, _++_}
+use mathlib.Core.Option.{Option, none, some}
+use lib.Dec.{eqb}
+use lib.ListN.{replicate}
+use Rattle.pages.specs.declared.PageOffset.{PageOffset}
+use Rattle.reads.specs.Reads.{readPart, filled}
+use Rattle.requests.specs.Numbers.{numberOf}
+use Rattle.walks.specs.declared.Begun.{Begun}
+use Rattle.walks.specs.declared.Begun as G
+use Rattle.walks.specs.declared.Progress.{Progress}
+use Rattle.walks.specs.declared.Progress as P
+use Rattle.model.specs.Calls as C
+use Rattle.model.specs.Board as B
+use Rattle.model.specs.Board.{Board, answers, boardAfter}
 use Rattle.boards.specs.declared.Hand.{Hand}
-use Rattle.boards.specs.declared.Board.{Board}
+use Rattle.boards.specs.declared.Hand as H
+use Rattle.boards.specs.declared.Call.{Call}
+use Rattle.boards.specs.declared.Call as L
+use Rattle.boards.specs.declared.Answer.{Answer}
+use Rattle.boards.specs.declared.Answer as A
+use Rattle.boards.specs.declared.Turn.{Turn}
 
--- what a read of the whole image gives: nothing where it is refused or no page is live
-abbrev pub shown : List ℕ → List ℕ → List ℕ
-shown l r = readPart l r 4 (length l - 4)
+-- ---- the hand
+-- the walk in hand and the data it was begun with
+abbrev pub handIn : Hand → List ℕ → Option B.Hand
+handIn H.the-variants.Empty held = none
+handIn (H.the-variants.Holding w) held = some (record { walk = w; held = held })
 
--- the bytes of hexadecimal digits, none where they are more than a page can have
-unfoldable pub dataOf : List ℕ → List ℕ
-dataOf digits = cond (leb (length (bytesOf digits)) 4096) (bytesOf digits) []
+abbrev pub boardIn : Hand → List ℕ → List ℕ → List ℕ → Board
+boardIn hand held l r = record { left = l; right = r; hand = handIn hand held }
 
--- a board with no walk in hand
-abbrev pub idle : Board
-idle = record { hand = H.the-variants.Empty; at = 0 }
+-- ---- the calls
+-- the calls that each case stands for, with the data and the output lent to them
+abbrev pub callsIn : Call → List ℕ → List ℕ → List C.Call
+callsIn (L.the-variants.Save o) d out = C.save o d ∷ []
+callsIn L.the-variants.Format d out = C.format ∷ []
+callsIn (L.the-variants.Step n) d out = replicate n (C.step d)
+callsIn (L.the-variants.Read o n) d out = C.read o n ∷ []
+callsIn (L.the-variants.ReadInto o) d out = C.readInto o out ∷ []
+callsIn L.the-variants.Cut d out = C.cut ∷ []
 
--- the board after a beginning by the line at a place: one that is refused leaves it as it was
-abbrev pub taken : Beginning → ℕ → Board → Board
-taken (W.begun w) at board = record { hand = H.the-variants.On w; at = at }
-taken (W.refused k) at board = board
+-- how many they are
+abbrev pub timesOf : Call → ℕ
+timesOf (L.the-variants.Save o) = 1
+timesOf L.the-variants.Format = 1
+timesOf (L.the-variants.Step n) = n
+timesOf (L.the-variants.Read o n) = 1
+timesOf (L.the-variants.ReadInto o) = 1
+timesOf L.the-variants.Cut = 1
 
--- a walk and both pages
-pub record Moved : Type 0 where
-  pub walk : Walk
-  pub left : List ℕ
-  pub right : List ℕ
+-- ---- the answers
+-- the model's answer for each case, over the pages and the output as they are then
+abbrev pub answerIn : Answer → List ℕ → List ℕ → List ℕ → C.Answer
+answerIn A.the-variants.Nothing l r out = C.nothing
+answerIn A.the-variants.Begun l r out = C.begun
+answerIn A.the-variants.Made l r out = C.made
+answerIn A.the-variants.Ended l r out = C.ended
+answerIn (A.the-variants.Number n) l r out = C.number n
+answerIn (A.the-variants.Part o n) l r out = C.bytes (readPart l r o n)
+answerIn (A.the-variants.Output n) l r out = C.output n out
 
-abbrev pub onMade : Said → Moved → Moved → Moved
-onMade W.made a b = a
-onMade W.ended a b = b
-onMade (W.number k) a b = b
+-- so many steps made, and the answer to all the calls after them
+abbrev pub answersIn : ℕ → ℕ → C.Answer → List C.Answer
+answersIn times made last = replicate made C.made ++ replicate (times - made) last
 
--- a walk stepped a number of times, up to the first step that isn't made
-unfoldable pub steppedOn : ℕ → Walk → List ℕ → List ℕ → List ℕ → Moved
-steppedOn zero w l r d = record { walk = w; left = l; right = r }
-steppedOn (suc n) w l r d =
-    let o = stepOf w l r d in
-    onMade (o .said) (steppedOn n (o .walk) (o .left) (o .right) d)
-    (record { walk = o .walk; left = o .left; right = o .right })
+-- the data held after a call: its own where it begins a walk, of which a format has none
+abbrev pub ownOf : Call → List ℕ → List ℕ
+ownOf (L.the-variants.Save o) d = d
+ownOf L.the-variants.Format d = []
+ownOf (L.the-variants.Step n) d = []
+ownOf (L.the-variants.Read o n) d = []
+ownOf (L.the-variants.ReadInto o) d = []
+ownOf L.the-variants.Cut d = []
 
--- the digits that a line steps the walk in hand with: those of the line that began it, unless the
--- line gives digits, and not as many
-unfoldable pub digitsOf : List ℕ → List ℕ → Bool → Board → List ℕ
-digitsOf text line own board =
-    let held = wordAt 2 (lineAt text (board .at)) in
-    cond own
-    (cond (eqb (length (wordAt 2 line)) (length held)) held (wordAt 2 line))
-    held
+abbrev pub heldAfter : Answer → List ℕ → List ℕ → List ℕ
+heldAfter A.the-variants.Nothing own held = held
+heldAfter A.the-variants.Begun own held = own
+heldAfter A.the-variants.Made own held = held
+heldAfter A.the-variants.Ended own held = held
+heldAfter (A.the-variants.Number n) own held = held
+heldAfter (A.the-variants.Part o n) own held = held
+heldAfter (A.the-variants.Output n) own held = held
 
--- the board and both pages
-pub record Placed : Type 0 where
+-- the turn after a beginning, and the answer after a step and of a read by its number
+abbrev pub begunTurn : Hand → Begun → Turn
+begunTurn hand (G.the-variants.On w) =
+    record { hand = H.the-variants.Holding w; made = 0; answer = A.the-variants.Begun }
+begunTurn hand (G.the-variants.Refused why) =
+    record { hand = hand; made = 0; answer = A.the-variants.Number (numberOf why) }
+
+abbrev pub progressAnswer : Progress → Answer
+progressAnswer P.the-variants.Made = A.the-variants.Made
+progressAnswer P.the-variants.Ended = A.the-variants.Ended
+progressAnswer P.the-variants.Unfit = A.the-variants.Number 6
+
+abbrev pub readAnswer : ℕ → PageOffset → ℕ → Answer
+readAnswer number o n = cond (eqb number 0) (A.the-variants.Part o n) (A.the-variants.Number number)
+
+-- ---- what a call gives
+-- the answers to its calls, the board after them and the lent output
+pub record Made : Type 0 where
+  pub answers : List C.Answer
   pub board : Board
-  pub left : List ℕ
-  pub right : List ℕ
+  pub out : List ℕ
 
--- the walk in hand stepped a number of times; with no walk nothing happens
-abbrev pub handStepped : ℕ → List ℕ → Hand → List ℕ → List ℕ → Board → Placed
-handStepped n d H.the-variants.Empty l r board = record { board = board; left = l; right = r }
-handStepped n d (H.the-variants.On w) l r board =
-    let m = steppedOn n w l r d in
+-- the output after a call: only a read into it changes it
+abbrev pub outAfter : Call → List ℕ → List ℕ → List ℕ → List ℕ
+outAfter (L.the-variants.Save o) l r out = out
+outAfter L.the-variants.Format l r out = out
+outAfter (L.the-variants.Step n) l r out = out
+outAfter (L.the-variants.Read o n) l r out = out
+outAfter (L.the-variants.ReadInto o) l r out = filled l r o out .bytes
+outAfter L.the-variants.Cut l r out = out
+
+-- a turn of the code, over the pages and the output as it leaves them
+abbrev pub turnIn : Call → Turn → List ℕ → List ℕ → List ℕ → List ℕ → List ℕ → Made
+turnIn call t held d l r out =
     record {
-      board = record { hand = H.the-variants.On (m .walk); at = board .at };
-      left = m .left;
-      right = m .right;
+      answers = answersIn (timesOf call) (t .made) (answerIn (t .answer) l r out);
+      board = boardIn (t .hand) (heldAfter (t .answer) (ownOf call d) held) l r;
+      out = out;
     }
 
--- each call of a line: a beginning, steps and a cut change the board, reads don't
-abbrev pub called : Call → List ℕ → ℕ → List ℕ → List ℕ → Board → Placed
-called (C.the-variants.Save o) text at l r board =
-    let d = dataOf (wordAt 2 (lineAt text at)) in
-    record { board = taken (beginSave l r (record { 0 = o }) d) at board; left = l; right = r }
-called C.the-variants.Format text at l r board =
-    record { board = taken (beginFormat l r) at board; left = l; right = r }
-called (C.the-variants.Step n own) text at l r board =
-    handStepped n (dataOf (digitsOf text (lineAt text at) own board)) (board .hand) l r board
-called C.the-variants.Cut text at l r board = record { board = idle; left = l; right = r }
-called C.the-variants.Nothing text at l r board = record { board = board; left = l; right = r }
-called (C.the-variants.Read o n) text at l r board = record { board = board; left = l; right = r }
-called (C.the-variants.Copy o n) text at l r board = record { board = board; left = l; right = r }
-called (C.the-variants.Wrong f n) text at l r board =
-    record { board = board; left = l; right = r }
+-- the model's calls on the model's board
+unfoldable pub madeOn : Call → Board → List ℕ → List ℕ → Made
+madeOn call b d out =
+    let cs = callsIn call d out in
+    record {
+      answers = answers b cs;
+      board = boardAfter b cs;
+      out = outAfter call (b .left) (b .right) out;
+    }
 
--- the call of the line at a place
-unfoldable pub madeOn : List ℕ → ℕ → List ℕ → List ℕ → Board → Placed
-madeOn text at l r board = called (callOf (lineAt text at)) text at l r board
+-- so many steps: whatever the output is, as they keep it
+abbrev pub Steps : ℕ → Turn → Hand → List ℕ → List ℕ → List ℕ → List ℕ → List ℕ → List ℕ → Type 0
+Steps n t hand held d l r l′ r′ =
+    (out : List ℕ)
+    → turnIn (L.the-variants.Step n) t held d l′ r′ out
+    ≡ madeOn (L.the-variants.Step n) (boardIn hand held l r) d out

@@ -1,189 +1,202 @@
-// The board between two calls of a script, and the calls made on it. Nothing here prints.
+// One call on a board: two lent pages, and the walk in hand by value. Every call of the model is
+// made by one function, which answers as the model does and leaves the pages that the model leaves.
 //
-// A script is a text whose lines are right. The data of the walk in hand is that of the line that
-// began it. What each call leaves is in specs/Boards.antt.
+// It is total: any hand, any bytes and lengths. The data that a walk was begun with is lent too. What
+// each answer means is in specs/Boards.antt.
 use pages::PageOffset;
-use texts::Call;
 use walks::Begun;
 use walks::Progress;
 use walks::Walk;
 ghost use mathlib.Core.Path.{_≡_};
-ghost use Rattle.walks.specs.Walks.{beginSave, beginningIn};
+ghost use Rattle.reads.specs.Reads.{readNumber};
+ghost use Rattle.model.specs.Board.{handed};
 ghost use Rattle.boards.specs.Boards.{
-  shown,
-  dataOf,
-  idle,
-  taken,
-  Moved,
-  steppedOn,
-  digitsOf,
-  Placed,
-  handStepped,
+  boardIn,
+  begunTurn,
+  progressAnswer,
+  readAnswer,
+  Made,
+  turnIn,
   madeOn,
+  Steps,
 };
+
+// The number of a step that doesn't fit.
+const UNFIT: u8 = 6;
 
 // The walk in hand.
 pub enum Hand {
     Empty,
-    On(Walk),
+    Holding(Walk),
 }
 
-// The walk in hand, and where the line is that began it.
-pub struct Board {
+// A call: a save at a page offset with the data lent, a format, so many steps with the data lent, a
+// read with page offset and length, a read into the output lent, or a cut.
+pub enum Call {
+    Save(PageOffset),
+    Format,
+    Step(u32),
+    Read(PageOffset, u32),
+    ReadInto(PageOffset),
+    Cut,
+}
+
+// An answer: none, a walk begun, a step made, the walk ended, document 01's number, a part of the
+// live page by its page offset and length, or that the output holds the bytes, with the number of
+// that read.
+pub enum Answer {
+    Nothing,
+    Begun,
+    Made,
+    Ended,
+    Number(u8),
+    Part(PageOffset, u32),
+    Output(u8),
+}
+
+// The hand after a call, how many steps were made, and the answer to the call, or to all steps after
+// those.
+pub struct Turn {
     pub hand: Hand,
-    pub at: usize,
-}
-
-impl Board {
-    // A board with no walk in hand.
-    pub fn new() -> Board
-        ensures { λ r. ⌜ r ≡ idle ⌝ }
-    {
-        Board {
-            hand: Hand::Empty,
-            at: 0,
-        }
-    }
-}
-
-// ---- the pages
-// What a read of the whole image gives: nothing where no page is live.
-pub fn image<'a>(left: &'a [u8], right: &'a [u8]) -> &'a [u8]
-    ensures { λ r. ⌜ now r ≡ shown (now (left .entry)) (now (right .entry)) ⌝ }
-{
-    let size = left.len();
-    if pages::MAX_PAGE < size {
-        return &left[0..0];
-    }
-    let page = size as u32;
-    if page < pages::MANAGEMENT_SIZE {
-        return &left[0..0];
-    }
-    let start = PageOffset(pages::MANAGEMENT_SIZE);
-    reads::read(left, right, start, page - pages::MANAGEMENT_SIZE)
+    pub made: u32,
+    pub answer: Answer,
 }
 
 // ---- beginnings
-// Begins a save of the bytes of hexadecimal digits.
-pub fn begin_save(left: &[u8], right: &[u8], offset: u32, digits: &[u8]) -> Begun
-    ensures { λ r.
-        ⌜ beginningIn r
-        ≡ beginSave (now (left .entry)) (now (right .entry))
-        (record { 0 = offset })
-        (dataOf (now (digits .entry))) ⌝ }
-{
-    let mut data = [0u8; 4096];
-    let size = texts::decode(digits, &mut data);
-    Walk::save(left, right, PageOffset(offset), &data[0..size])
-}
-
-// The board after a beginning by the line at a place: one that is refused leaves it as it was.
-fn take(begun: Begun, at: usize, board: Board) -> Board
-    ensures { λ r. ⌜ r ≡ taken (beginningIn begun) at board ⌝ }
+// A walk that is begun replaces any former one.
+fn begin(hand: Hand, begun: Begun) -> Turn
+    ensures { λ r. ⌜ r ≡ begunTurn hand begun ⌝ }
 {
     match begun {
-        Begun::On(walk) => Board {
-            hand: Hand::On(walk),
-            at: at,
+        Begun::On(walk) => Turn {
+            hand: Hand::Holding(walk),
+            made: 0,
+            answer: Answer::Begun,
         },
-        Begun::Refused(_) => board,
+        Begun::Refused(why) => Turn {
+            hand: hand,
+            made: 0,
+            answer: Answer::Number(why.number()),
+        },
     }
 }
 
 // ---- steps
-// Steps a walk a number of times, up to the first step that isn't made.
-pub fn steps(count: u32, walk: Walk, left: &mut [u8], right: &mut [u8], data: &[u8]) -> Walk
-    ensures { λ r.
-        ⌜ _≡_ {A = Moved}
-        (record { walk = r; left = now (left .exit); right = now (right .exit) })
-        (steppedOn count walk
-        (now (left .entry))
-        (now (right .entry))
-        (now («data» .entry))) ⌝ }
+fn progress_answer(progress: Progress) -> Answer
+    ensures { λ r. ⌜ r ≡ progressAnswer progress ⌝ }
 {
-    let mut now = walk;
-    for _ in 0..count {
-        let stepped = now.step(left, right, data);
-        let progress = stepped.progress;
-        now = stepped.walk;
-        match progress {
-            Progress::Made => {}
-            Progress::Ended => return now,
-            Progress::Unfit => return now,
-        }
+    match progress {
+        Progress::Made => Answer::Made,
+        Progress::Ended => Answer::Ended,
+        Progress::Unfit => Answer::Number(UNFIT),
     }
-    now
 }
 
-// The digits of what the walk in hand is stepped with by a line: its own, unless the line gives
-// digits, and not as many.
-pub fn step_digits<'a>(text: &'a [u8], line: &'a [u8], own: bool, board: Board) -> &'a [u8]
-    ensures { λ r.
-        ⌜ now r ≡ digitsOf (now (text .entry)) (now (line .entry)) own board ⌝ }
+// The data handed to a step: the held data where the lengths agree, else the data given.
+fn handed<'a>(held: &'a [u8], given: &'a [u8]) -> &'a [u8]
+    ensures { λ r. ⌜ now r ≡ handed (now (held .entry)) (now (given .entry)) ⌝ }
 {
-    let held = texts::word(texts::line_at(text, board.at), 2);
-    if !own {
-        return held;
+    if given.len() != held.len() {
+        return given;
     }
-    let digits = texts::word(line, 2);
-    if digits.len() == held.len() {
-        return held;
-    }
-    digits
+    held
 }
 
-fn step_hand(count: u32, digits: &[u8], left: &mut [u8], right: &mut [u8], board: Board) -> Board
+// So many steps of the walk in hand.
+fn step<'a>(
+    hand: Hand,
+    times: u32,
+    held: &'a [u8],
+    data: &'a [u8],
+    left: &mut [u8],
+    right: &mut [u8],
+) -> Turn
     ensures { λ r.
-        ⌜ _≡_ {A = Placed}
-        (record { board = r; left = now (left .exit); right = now (right .exit) })
-        (handStepped count
-        (dataOf (now (digits .entry)))
-        (board .hand)
+        ⌜ Steps times r hand
+        (now (held .entry))
+        (now («data» .entry))
         (now (left .entry))
         (now (right .entry))
-        board) ⌝ }
+        (now (left .exit))
+        (now (right .exit)) ⌝ }
 {
-    let hand = board.hand;
     match hand {
-        Hand::Empty => board,
-        Hand::On(walk) => {
-            let mut data = [0u8; 4096];
-            let size = texts::decode(digits, &mut data);
-            let next = steps(count, walk, left, right, &data[0..size]);
-            Board {
-                hand: Hand::On(next),
-                at: board.at,
+        Hand::Empty => Turn {
+            hand: Hand::Empty,
+            made: 0,
+            answer: Answer::Nothing,
+        },
+        Hand::Holding(walk) => {
+            let ran = walk.run(times, left, right, handed(held, data));
+            let next = ran.walk;
+            let progress = ran.progress;
+            Turn {
+                hand: Hand::Holding(next),
+                made: ran.steps,
+                answer: progress_answer(progress),
             }
         }
     }
 }
 
-// ---- calls
-// Makes the call of the line at a place.
-pub fn make(text: &[u8], at: usize, left: &mut [u8], right: &mut [u8], board: Board) -> Board
+// ---- reads
+fn read(left: &[u8], right: &[u8], offset: PageOffset, len: u32) -> Answer
     ensures { λ r.
-        ⌜ _≡_ {A = Placed}
-        (record { board = r; left = now (left .exit); right = now (right .exit) })
-        (madeOn (now (text .entry)) at (now (left .entry)) (now (right .entry)) board) ⌝ }
+        ⌜ r
+        ≡ readAnswer (readNumber (now (left .entry)) (now (right .entry)) offset len) offset len ⌝ }
 {
-    let line = texts::line_at(text, at);
-    match texts::parse(line) {
-        Call::Save(offset) => {
-            take(
-                begin_save(left, right, offset, texts::word(line, 2)),
-                at,
-                board,
-            )
+    let number = reads::check_read(left, right, offset, len).number();
+    if number == 0 {
+        return Answer::Part(offset, len);
+    }
+    Answer::Number(number)
+}
+
+// ---- a call
+// A call that leaves the walk in hand where it is.
+fn answered(hand: Hand, answer: Answer) -> Turn
+    ensures { λ r. ⌜ r ≡ (record { hand = hand; made = 0; answer = answer }) ⌝ }
+{
+    Turn {
+        hand: hand,
+        made: 0,
+        answer: answer,
+    }
+}
+
+// Makes a call on the pages with this walk in hand, which was begun with the data held. The data is
+// that of a save or of the steps; the output is filled by a read into it, and kept by any other call.
+pub fn make<'a>(
+    call: Call,
+    hand: Hand,
+    held: &'a [u8],
+    data: &'a [u8],
+    left: &mut [u8],
+    right: &mut [u8],
+    out: &mut [u8],
+) -> Turn
+    ensures { λ r.
+        ⌜ _≡_ {A = Made}
+        (turnIn call r
+        (now (held .entry))
+        (now («data» .entry))
+        (now (left .exit))
+        (now (right .exit))
+        (now (out .exit)))
+        (madeOn call
+        (boardIn hand (now (held .entry)) (now (left .entry)) (now (right .entry)))
+        (now («data» .entry))
+        (now (out .entry))) ⌝ }
+{
+    match call {
+        Call::Save(offset) => begin(hand, Walk::save(left, right, offset, data)),
+        Call::Format => begin(hand, Walk::format(left, right)),
+        Call::Step(times) => step(hand, times, held, data, left, right),
+        Call::Read(offset, len) => answered(hand, read(left, right, offset, len)),
+        Call::ReadInto(offset) => {
+            let reading = reads::read_into(left, right, offset, out);
+            answered(hand, Answer::Output(reading.number()))
         }
-        Call::Format => take(Walk::format(left, right), at, board),
-        Call::Step(count, own) => {
-            let digits = step_digits(text, line, own, board);
-            step_hand(count, digits, left, right, board)
-        }
-        Call::Cut => Board::new(),
-        Call::Nothing => board,
-        Call::Read(_, _) => board,
-        Call::Copy(_, _) => board,
-        Call::Wrong(_, _) => board,
+        Call::Cut => answered(Hand::Empty, Answer::Nothing),
     }
 }

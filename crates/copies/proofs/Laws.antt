@@ -18,7 +18,8 @@ block-front src rest held e =
     ∙ take-at src rest (length src) refl
 
 pub block-copied : (src held dst after : List ℕ) → take (length src) held ≡ src
-    → after ≡ take (length (take (length src) held)) (take (length src) held) ++ drop (length (take (length src) held)) dst
+    → after ≡ take (length (take (length src) held)) (take (length src) held) ++ drop (length (take
+    (length src) held)) dst
     → after ≡ src ++ drop (length src) dst
 block-copied src held dst after p e =
     e

@@ -35,41 +35,34 @@ fn prepare(page: &mut [u8], word: u32, cell: u16) {
     flash::program(page, 4, cell);
 }
 
-// Steps a walk to its end and counts the steps made; 9999 where a step is refused or none is the
-// last.
+// More steps than any walk makes.
+const MOST_STEPS: u32 = 3000;
+
+// The count of a walk that is refused or doesn't end: no walk has so many steps.
+const NO_COUNT: u32 = 9999;
+
+// Steps a walk to its end and counts the steps made.
 fn walk_on(walk: Walk, left: &mut [u8], right: &mut [u8], data: &[u8]) -> u32 {
-    let mut at = walk;
-    let mut made: u32 = 0;
-    while made < 3000 {
-        let stepped = at.step(left, right, data);
-        let progress = stepped.progress;
-        match progress {
-            Progress::Made => {
-                at = stepped.walk;
-            }
-            Progress::Ended => {
-                return made;
-            }
-            Progress::Unfit => {
-                return 9999;
-            }
-        }
-        made += 1;
+    let ran = walk.run(MOST_STEPS, left, right, data);
+    let progress = ran.progress;
+    match progress {
+        Progress::Ended => ran.steps,
+        Progress::Made => NO_COUNT,
+        Progress::Unfit => NO_COUNT,
     }
-    9999
 }
 
 fn walk_save(left: &mut [u8], right: &mut [u8], data: &[u8]) -> u32 {
     match Walk::save(left, right, PageOffset(4), data) {
         Begun::On(walk) => walk_on(walk, left, right, data),
-        Begun::Refused(_) => 9999,
+        Begun::Refused(_) => NO_COUNT,
     }
 }
 
 fn walk_format(left: &mut [u8], right: &mut [u8], data: &[u8]) -> u32 {
     match Walk::format(left, right) {
         Begun::On(walk) => walk_on(walk, left, right, data),
-        Begun::Refused(_) => 9999,
+        Begun::Refused(_) => NO_COUNT,
     }
 }
 

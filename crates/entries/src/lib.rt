@@ -18,7 +18,7 @@ ghost use mathlib.Core.Bool.{false};
 ghost use mathlib.Core.Path.{_≡_};
 ghost use lib.ListN.{length, getD};
 ghost use Rattle.pages.specs.declared.Live.the-variants.{Nowhere, On};
-ghost use Rattle.pages.specs.Pages.{onSide, liveOf};
+ghost use Rattle.pages.specs.Pages.{onSide};
 ghost use Rattle.plans.specs.declared.Request.the-variants.{Save};
 ghost use Rattle.plans.specs.Plans.{
   mark,
@@ -32,27 +32,9 @@ ghost use Rattle.plans.specs.Plans.{
   nothing,
 };
 ghost use Rattle.plans.specs.Counts.{stepCount};
-ghost use Rattle.plans.specs.Spots.{saveSpot, spotOf, cellIn};
+ghost use Rattle.plans.specs.Spots.{Stands, cellIn, Programs, saveSpot, spotOf, spotCell};
 
 // ---- the entries of the list
-// The live side of a state.
-pub fn live_of(state: State) -> Live
-    ensures { λ r. ⌜ r ≡ liveOf state ⌝ }
-{
-    match state {
-        State::S0 => Live::Nowhere,
-        State::S1 => Live::On(Side::Left),
-        State::S2 => Live::On(Side::Left),
-        State::S3 => Live::On(Side::Left),
-        State::S5 => Live::On(Side::Right),
-        State::S6 => Live::On(Side::Right),
-        State::S7 => Live::On(Side::Right),
-        State::S8 => Live::On(Side::Right),
-        State::S9 => Live::On(Side::Left),
-        State::S10 => Live::On(Side::Left),
-    }
-}
-
 // One of the erases of both pages.
 fn erase_entry(place: u32) -> Entry
     ensures { λ r. ⌜ r ≡ getD erasesBoth place nothing ⌝ }
@@ -175,7 +157,7 @@ fn clean_state(live: Live) -> State
     }
 }
 
-pub fn target_side(live: Live) -> Side
+fn target_side(live: Live) -> Side
     ensures { λ r. ⌜ r ≡ target live ⌝ }
 {
     match live {
@@ -249,20 +231,20 @@ fn save_spot(start: State, erased: bool, page: u32, place: u32) -> Spot
     if place < before {
         return Spot::Fixed(ready_entry(start, place));
     }
-    let live = live_of(start);
+    let live = start.live();
     let cell = place - before;
     let cells = plans::cell_count(page);
     if cell < cells {
         let state = clean_state(live);
         let side = target_side(live);
         let inside = cell * 2;
-        return Spot::Cell(state, side, live, ImageOffset(inside));
+        return Spot::Cell(state, side, ImageOffset(inside));
     }
     Spot::Fixed(mark_entry(live, cell - cells))
 }
 
-// What stands at a place of the list of a request that begins at a line, on pages of P bytes.
-pub fn spot_at(request: Request, start: State, erased: bool, page: u32, place: u32) -> Spot
+// What the look-up finds at a place.
+fn find_spot(request: Request, start: State, erased: bool, page: u32, place: u32) -> Spot
     ensures { λ r. ⌜ r ≡ spotOf request start erased page place ⌝ }
 {
     if plans::step_count(request, start, erased, page) <= place {
@@ -274,9 +256,17 @@ pub fn spot_at(request: Request, start: State, erased: bool, page: u32, place: u
     }
 }
 
+// What stands at a place of the list of a request that begins at a line, on pages of P bytes,
+// whatever the new image is.
+pub fn spot_at(request: Request, start: State, erased: bool, page: u32, place: u32) -> Spot
+    ensures { λ r. ⌜ Stands request start erased page place r ⌝ }
+{
+    find_spot(request, start, erased, page, place)
+}
+
 // The image cell at a place of a save's list.
 fn save_cell(start: State, erased: bool, page: u32, place: u32) -> InCells
-    ensures { λ r. ⌜ r ≡ cellIn (saveSpot start erased page place) ⌝ }
+    ensures { λ r. ⌜ cellIn r ≡ spotCell (saveSpot start erased page place) ⌝ }
 {
     let before = plans::added_steps(start, erased) - 3;
     if place < before {
@@ -284,8 +274,9 @@ fn save_cell(start: State, erased: bool, page: u32, place: u32) -> InCells
     }
     let cell = place - before;
     if cell < plans::cell_count(page) {
+        let side = target_side(start.live());
         let inside = cell * 2;
-        return InCells::At(ImageOffset(inside));
+        return InCells::At(side, ImageOffset(inside));
     }
     InCells::Outside
 }
@@ -293,7 +284,7 @@ fn save_cell(start: State, erased: bool, page: u32, place: u32) -> InCells
 // The image cell that stands at a place of the list, if one does: nearly every step of a save is
 // one, so a walk asks for it before it asks what else stands there.
 pub fn cell_at(request: Request, start: State, erased: bool, page: u32, place: u32) -> InCells
-    ensures { λ r. ⌜ r ≡ cellIn (spotOf request start erased page place) ⌝ }
+    ensures { λ r. ⌜ Programs request start erased page place r ⌝ }
 {
     match request {
         Request::Save => save_cell(start, erased, page, place),

@@ -1,98 +1,206 @@
-// Runs those examples of document 01 that aren't starred and ask for a number, on a live pair of
-// pages, and compares. The layout of what it prints is in docs/FORMATS.md.
+// Runs those examples of document 01 that aren't starred and ask for a number, and compares: each is
+// asked as both reads, as a save and as a format. The layout of what it prints is in
+// docs/FORMATS.md.
 use libc::STDOUT_FILENO;
 use pages::PageOffset;
 use walks::Begun;
 use walks::Walk;
+ghost use Prim.Native.Nat.{_≤_};
 
-// The length of the pages, a page offset, a length, and document 01's number for a read and for a
-// save of them; 0 where it is legal.
-struct Vector(usize, u32, usize, u8);
+// The length of the pages, a page offset, a length, and document 01's number for them; 0 where they
+// are legal. At number 1 document 01 names no offset and no length: 4 and 2 meet no other number.
+struct Vector(usize, u32, u32, u8);
 
-const VECTORS: [Vector; 6] = [
+const VECTORS: [Vector; 5] = [
     Vector(8, 3, 2, 2),
     Vector(8, 6, 2, 0),
     Vector(8, 6, 4, 4),
     Vector(6, 4, 2, 1),
     Vector(4098, 4, 2, 1),
-    Vector(4096, 4, 4092, 0),
 ];
 
-// The number of a read from the first `page` bytes of each buffer; 255 where a buffer is too short.
-fn ask<'a>(
-    left: &'a [u8],
-    right: &'a [u8],
-    page: usize,
-    offset: u32,
-    out: &mut [u8],
-    len: usize,
-) -> u8 {
-    if left.len() < page {
-        return 255;
-    }
-    if right.len() < page {
-        return 255;
-    }
-    if out.len() < len {
-        return 255;
-    }
-    let reading = reads::read_into(
-        &left[0..page],
-        &right[0..page],
-        PageOffset(offset),
-        &mut out[0..len],
-    );
-    reading.number()
+// What the library is asked for: the read without a copy, the copying read, a save or a format.
+enum Question {
+    Read,
+    Copy,
+    Save,
+    Format,
 }
 
-// The number of a save of the first `len` bytes of a buffer; 255 where a buffer is too short.
-fn ask_save(left: &[u8], right: &[u8], page: usize, offset: u32, data: &[u8], len: usize) -> u8 {
-    if left.len() < page {
-        return 255;
+// The number that came, 255 where a vector wants more bytes than there are; and whether the bytes of
+// a read are those that go with it.
+struct Answer {
+    number: u8,
+    fitting: bool,
+}
+
+// Whether each question was answered as document 01 does.
+struct Right {
+    read: bool,
+    copy: bool,
+    save: bool,
+    format: bool,
+}
+
+// ---- asking
+// The asked bytes of a page; none where they don't lie in it.
+fn asked_of<'a>(page: &'a [u8], offset: u32, len: usize) -> &'a [u8] {
+    let start = offset as usize;
+    if page.len() < start {
+        return &page[0..0];
     }
-    if right.len() < page {
-        return 255;
+    if page.len() - start < len {
+        return &page[0..0];
     }
-    if data.len() < len {
-        return 255;
+    let end = start + len;
+    &page[start..end]
+}
+
+// The read without a copy: the asked part of LEFT where it is legal, else none.
+fn ask_read<'a>(left: &'a [u8], right: &'a [u8], offset: u32, len: u32) -> Answer {
+    let reading = reads::check_read(left, right, PageOffset(offset), len);
+    let number = reading.number();
+    let part = reads::read(left, right, PageOffset(offset), len);
+    let fitting = if number == 0 {
+        check::same(part, asked_of(left, offset, len as usize))
+    } else {
+        part.len() == 0
+    };
+    Answer {
+        number: number,
+        fitting: fitting,
     }
-    match Walk::save(
-        &left[0..page],
-        &right[0..page],
-        PageOffset(offset),
-        &data[0..len],
-    ) {
+}
+
+// The copying read: the output then holds the asked part of LEFT where it is legal, else what it
+// held before.
+fn ask_copy<'a>(
+    left: &'a [u8],
+    right: &'a [u8],
+    offset: u32,
+    out: &mut [u8],
+    before: &[u8],
+) -> Answer {
+    let reading = reads::read_into(left, right, PageOffset(offset), out);
+    let number = reading.number();
+    let fitting = if number == 0 {
+        check::same(out, asked_of(left, offset, before.len()))
+    } else {
+        check::same(out, before)
+    };
+    Answer {
+        number: number,
+        fitting: fitting,
+    }
+}
+
+fn ask_begun(begun: Begun) -> Answer {
+    let number = match begun {
         Begun::On(_) => 0,
         Begun::Refused(why) => why.number(),
+    };
+    Answer {
+        number: number,
+        fitting: true,
     }
+}
+
+// Asks on these pages. The bytes lent are a save's data, and what a copy's output holds before.
+fn ask<'a>(
+    question: Question,
+    left: &'a [u8],
+    right: &'a [u8],
+    offset: u32,
+    len: u32,
+    out: &mut [u8],
+    lent: &[u8],
+) -> Answer {
+    match question {
+        Question::Read => ask_read(left, right, offset, len),
+        Question::Copy => ask_copy(left, right, offset, out, lent),
+        Question::Save => ask_begun(Walk::save(left, right, PageOffset(offset), lent)),
+        Question::Format => ask_begun(Walk::format(left, right)),
+    }
+}
+
+// Asks on the first bytes of what is lent.
+fn ask_first<'a>(
+    question: Question,
+    vector: Vector,
+    left: &'a [u8],
+    right: &'a [u8],
+    out: &mut [u8],
+    lent: &[u8],
+) -> Answer {
+    let page = vector.0;
+    let len = vector.2 as usize;
+    let missing = Answer {
+        number: 255,
+        fitting: false,
+    };
+    if left.len() < page {
+        return missing;
+    }
+    if right.len() < page {
+        return missing;
+    }
+    if out.len() < len {
+        return missing;
+    }
+    if lent.len() < len {
+        return missing;
+    }
+    ask(
+        question,
+        &left[0..page],
+        &right[0..page],
+        vector.1,
+        vector.2,
+        &mut out[0..len],
+        &lent[0..len],
+    )
 }
 
 fn lend<'a>(
+    question: Question,
+    vector: Vector,
     left: &'a [u8; 4098],
     right: &'a [u8; 4098],
-    page: usize,
-    offset: u32,
     out: &mut [u8; 4098],
-    len: usize,
-) -> u8 {
-    let saving = ask_save(left, right, page, offset, out, len);
-    let reading = ask(left, right, page, offset, out, len);
-    if saving == reading { reading } else { 254 }
+    lent: &[u8; 4098],
+) -> Answer {
+    ask_first(question, vector, left, right, out, lent)
 }
 
-// The number that the library gives a read and a save, 254 where they differ: LEFT is live, line 3.
-fn answer(page: usize, offset: u32, len: usize) -> u8 {
-    let mut left = [255u8; 4098];
+// What the library answers on two pages at line 3, where LEFT is live, with another image in each.
+fn answer_to(question: Question, vector: Vector) -> Answer {
+    let mut left = [17u8; 4098];
     left[0] = 0;
     left[1] = 0;
-    let mut right = [255u8; 4098];
+    left[2] = 255;
+    left[3] = 255;
+    left[7] = 18;
+    let mut right = [34u8; 4098];
     right[0] = 0;
     right[1] = 0;
     right[2] = 0;
-    let mut out = [0u8; 4098];
-    lend(&left, &right, page, offset, &mut out, len)
+    right[3] = 255;
+    let mut out = [165u8; 4098];
+    let lent = [165u8; 4098];
+    lend(question, vector, &left, &right, &mut out, &lent)
 }
 
+// Document 01's number for a question: "A format has no offset and can only meet 1".
+fn number_for(question: Question, number: u8) -> u8 {
+    match question {
+        Question::Read => number,
+        Question::Copy => number,
+        Question::Save => number,
+        Question::Format => if number == 1 { 1 } else { 0 },
+    }
+}
+
+// ---- printing
 fn print_number(label: &[u8], number: u64) {
     io::write_all(STDOUT_FILENO, label);
     io::print_decimal(STDOUT_FILENO, number);
@@ -106,48 +214,105 @@ fn print_answer(number: u8) {
     }
 }
 
-fn print_request(page: usize, offset: u32, len: usize) {
-    print_number(b"P ", page as u64);
-    print_number(b", offset ", offset as u64);
-    print_number(b", length ", len as u64);
-    io::write_all(STDOUT_FILENO, b": ");
+fn print_vector(vector: Vector) {
+    print_number(b"P ", vector.0 as u64);
+    print_number(b", offset ", vector.1 as u64);
+    print_number(b", length ", vector.2 as u64);
 }
 
-// Prints a vector with the library's answer, and says whether it is document 01's.
-fn run(page: usize, offset: u32, len: usize, number: u8) -> bool {
-    print_request(page, offset, len);
-    let given = answer(page, offset, len);
-    print_answer(given);
-    if given != number {
+// Asks and prints the answer, and says whether it is document 01's.
+fn run_question(label: &[u8], question: Question, vector: Vector) -> bool {
+    let given = answer_to(question, vector);
+    let number = number_for(question, vector.3);
+    io::write_all(STDOUT_FILENO, label);
+    print_answer(given.number);
+    if !given.fitting {
+        io::write_all(STDOUT_FILENO, b" with wrong bytes");
+    }
+    if given.number != number {
         io::write_all(STDOUT_FILENO, b", but document 01 gives ");
         print_answer(number);
+        return false;
     }
-    io::write_all(STDOUT_FILENO, b"\n");
-    given == number
+    given.fitting
 }
 
-// Runs every vector, and counts those that are answered wrong.
-fn run_all() -> u64 {
-    let vectors = VECTORS;
-    let mut wrong: u64 = 0;
-    for i in 0..6 {
-        let v = vectors[i];
-        if !run(v.0, v.1, v.2, v.3) {
-            wrong += 1;
-        }
+// Asks a vector in each way, and prints its line.
+fn run(vector: Vector) -> Right {
+    print_vector(vector);
+    let read = run_question(b": read ", Question::Read, vector);
+    let copy = run_question(b"; copy ", Question::Copy, vector);
+    let save = run_question(b"; save ", Question::Save, vector);
+    let format = run_question(b"; format ", Question::Format, vector);
+    io::write_all(STDOUT_FILENO, b"\n");
+    Right {
+        read: read,
+        copy: copy,
+        save: save,
+        format: format,
     }
-    wrong
+}
+
+// How many vectors were answered wrong, by what was asked.
+struct Wrong {
+    reads: u64,
+    copies: u64,
+    saves: u64,
+    formats: u64,
+}
+
+fn one_if_wrong(right: bool) -> u64
+    ensures { λ r. ⌜ r ≤ 1 ⌝ }
+{
+    if right { 0 } else { 1 }
+}
+
+fn run_all() -> Wrong {
+    let vectors = VECTORS;
+    let mut reads: u64 = 0;
+    let mut copies: u64 = 0;
+    let mut saves: u64 = 0;
+    let mut formats: u64 = 0;
+    for i in 0..5 {
+        let right = run(vectors[i]);
+        reads += one_if_wrong(right.read);
+        copies += one_if_wrong(right.copy);
+        saves += one_if_wrong(right.save);
+        formats += one_if_wrong(right.format);
+    }
+    Wrong {
+        reads: reads,
+        copies: copies,
+        saves: saves,
+        formats: formats,
+    }
+}
+
+fn is_none(wrong: Wrong) -> bool {
+    if wrong.reads != 0 {
+        return false;
+    }
+    if wrong.copies != 0 {
+        return false;
+    }
+    if wrong.saves != 0 {
+        return false;
+    }
+    wrong.formats == 0
 }
 
 fn main() {
     let wrong = run_all();
-    if wrong == 0 {
+    if is_none(wrong) {
         io::write_all(
             STDOUT_FILENO,
-            b"all 6 examples are as document 01 gives them\n",
+            b"all 5 examples are as document 01 gives them\n",
         );
     } else {
-        io::print_decimal(STDOUT_FILENO, wrong);
-        io::write_all(STDOUT_FILENO, b" of 6 examples are WRONG\n");
+        print_number(b"of 5 examples WRONG: read ", wrong.reads);
+        print_number(b", copy ", wrong.copies);
+        print_number(b", save ", wrong.saves);
+        print_number(b", format ", wrong.formats);
+        io::write_all(STDOUT_FILENO, b"\n");
     }
 }

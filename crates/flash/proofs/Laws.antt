@@ -5,6 +5,7 @@ use Prim.Native.Nat.{ℕ, zero, suc, _+_, _%_, _/_, _<_, _≤_}
 use mathlib.Core.Path.{_≡_, refl, sym, ap, ap₂, _∙_}
 use mathlib.Core.Bool.{Bool, true, false, cond, _&&_}
 use mathlib.Core.List.{List, [], _∷_, _++_, append-nil}
+use mathlib.Core.Option.{none, some}
 use native.Mathlib.Numerals.{add-one}
 use native.Mathlib.Omega.{arith}
 use lib.Bits.{bitAnd, and-le-l, and-le-r}
@@ -13,7 +14,6 @@ use lib.ListN.{length, getD, set, drop, replicate, length-set, length-replicate,
 use lib.Seq.{drop-cons, drop-length, getD-set-same, getD-set-other}
 use borrow.Author.Fill.{fill-more}
 use borrow.Author.Tests.{eqb-true, eqb-false, ltb-true, eq-eqb, ne-eqb, lt-ltb, le-ltb}
-use Rattle.flash.specs.declared.Cell.the-variants.{Holds, Outside}
 use Rattle.flash.specs.Flash.{
   isCell,
   cellAt,
@@ -49,15 +49,15 @@ and-true true = refl
 and-true false = refl
 
 -- the byte after an even place inside is where a cell ends
-pub cell-here : (l : List ℕ) (i : ℕ) → i % 2 ≡ 0 → i + 1 < length l → cellOf l i ≡ Holds (cellAt l i)
+pub cell-here : (l : List ℕ) (i : ℕ) → i % 2 ≡ 0 → i + 1 < length l → cellOf l i ≡ some (cellAt l i)
 unfolding cellOf isCell
 cell-here l i e h = simp (eq-eqb _ _ e, lt-ltb _ _ h)
 
-pub cell-odd : (l : List ℕ) (i : ℕ) → (i % 2 ≡ 0 → ⊥) → cellOf l i ≡ Outside
+pub cell-odd : (l : List ℕ) (i : ℕ) → (i % 2 ≡ 0 → ⊥) → cellOf l i ≡ none
 unfolding cellOf isCell
 cell-odd l i h = simp (ne-eqb _ _ h)
 
-pub cell-past : (l : List ℕ) (i : ℕ) → i % 2 ≡ 0 → length l ≤ i + 1 → cellOf l i ≡ Outside
+pub cell-past : (l : List ℕ) (i : ℕ) → i % 2 ≡ 0 → length l ≤ i + 1 → cellOf l i ≡ none
 unfolding cellOf isCell
 cell-past l i e h = simp (eq-eqb _ _ e, le-ltb _ _ h)
 
@@ -66,20 +66,20 @@ unfolding isCell
 cell-inside l i e = ltb-true (i + 1) (length l) (and-right (eqb (i % 2) 0) (ltb (i + 1) (length l)) e)
 
 -- from the answer of a look at a cell back to the cell
-pub holds-cell : (l : List ℕ) (i v : ℕ) → cellOf l i ≡ Holds v → (isCell l i ≡ true) × (cellAt l i ≡ v)
+pub holds-cell : (l : List ℕ) (i v : ℕ) → cellOf l i ≡ some v → (isCell l i ≡ true) × (cellAt l i ≡ v)
 unfolding cellOf
 holds-cell l i v = go (isCell l i) refl
   where
-    go : (t : Bool) → isCell l i ≡ t → cond t (Holds (cellAt l i)) Outside ≡ Holds v
+    go : (t : Bool) → isCell l i ≡ t → cond t (some (cellAt l i)) none ≡ some v
         → (isCell l i ≡ true) × (cellAt l i ≡ v)
     go true q e = (q, cc)
     go false q e = (cc, cc)
 
-pub outside-cell : (l : List ℕ) (i : ℕ) → cellOf l i ≡ Outside → isCell l i ≡ false
+pub outside-cell : (l : List ℕ) (i : ℕ) → cellOf l i ≡ none → isCell l i ≡ false
 unfolding cellOf
 outside-cell l i = go (isCell l i) refl
   where
-    go : (t : Bool) → isCell l i ≡ t → cond t (Holds (cellAt l i)) Outside ≡ Outside → isCell l i ≡ false
+    go : (t : Bool) → isCell l i ≡ t → cond t (some (cellAt l i)) none ≡ none → isCell l i ≡ false
     go true q e = cc
     go false q e = q
 
@@ -94,30 +94,30 @@ unfolding programmed
 unfit l i v e = simp e
 
 -- the parts of the test, from a look at the cell
-pub fits-cell : (l : List ℕ) (i v old : ℕ) → cellOf l i ≡ Holds old → fits l i v ≡ clears old v
+pub fits-cell : (l : List ℕ) (i v old : ℕ) → cellOf l i ≡ some old → fits l i v ≡ clears old v
 unfolding fits
 fits-cell l i v old e = simp (holds-cell l i old e .0, holds-cell l i old e .1)
 
-pub fits-nowhere : (l : List ℕ) (i v : ℕ) → cellOf l i ≡ Outside → fits l i v ≡ false
+pub fits-nowhere : (l : List ℕ) (i v : ℕ) → cellOf l i ≡ none → fits l i v ≡ false
 unfolding fits
 fits-nowhere l i v e = simp (outside-cell l i e)
 
 -- the three ways a step ends, from a look at the cell and the test of its bits
-pub step-nowhere : (l : List ℕ) (i v : ℕ) → cellOf l i ≡ Outside
+pub step-nowhere : (l : List ℕ) (i v : ℕ) → cellOf l i ≡ none
     → _≡_ {A = Outcome} (record { number = 6; bytes = l }) (programmed l i v)
 step-nowhere l i v e = sym (unfit l i v (fits-nowhere l i v e))
 
-pub step-unfit : (l : List ℕ) (i v old : ℕ) → cellOf l i ≡ Holds old → (bitAnd old v ≡ v → ⊥)
+pub step-unfit : (l : List ℕ) (i v old : ℕ) → cellOf l i ≡ some old → (bitAnd old v ≡ v → ⊥)
     → _≡_ {A = Outcome} (record { number = 6; bytes = l }) (programmed l i v)
 step-unfit l i v old e h = sym (unfit l i v (fits-cell l i v old e ∙ ne-eqb (bitAnd old v) v h))
 
-pub step-made : (l : List ℕ) (i v old : ℕ) → cellOf l i ≡ Holds old → bitAnd old v ≡ v
+pub step-made : (l : List ℕ) (i v old : ℕ) → cellOf l i ≡ some old → bitAnd old v ≡ v
     → _≡_ {A = Outcome} (record { number = 0; bytes = stored l i (bitAnd old v) }) (programmed l i v)
 step-made l i v old e h =
     sym (made l i v (fits-cell l i v old e ∙ eq-eqb (bitAnd old v) v h)
     ∙ ap (λ (x : ℕ). record { number = 0; bytes = stored l i (bitAnd x v) }) (holds-cell l i old e .1))
 
-pub holds-inside : (l : List ℕ) (i v : ℕ) → cellOf l i ≡ Holds v → i + 1 < length l
+pub holds-inside : (l : List ℕ) (i v : ℕ) → cellOf l i ≡ some v → i + 1 < length l
 holds-inside l i v e = cell-inside l i (holds-cell l i v e .0)
 
 -- a stored number is read back from its cell, and every other byte is as it was

@@ -7,6 +7,7 @@
 use Prim.Native.Nat.{ℕ, _+_, _*_, _/_, _%_, _<_}
 use mathlib.Core.Bool.{Bool, true, cond, _&&_}
 use mathlib.Core.List.{List, [], _∷_}
+use mathlib.Core.Option.{Option, none, some}
 use lib.Bits.{bitAnd}
 use lib.Dec.{eqb, ltb}
 use lib.ListN.{length, getD, set, replicate}
@@ -35,9 +36,14 @@ cellNumber low high = low + high * 256
 abbrev pub cellAt : List ℕ → ℕ → ℕ
 cellAt l i = cellNumber (getD l i 0) (getD l (i + 1) 0)
 
--- what stands at a place
-unfoldable pub cellOf : List ℕ → ℕ → Cell
-cellOf l i = cond (isCell l i) (Holds (cellAt l i)) Outside
+-- the number of the cell at a place, if one is there
+unfoldable pub cellOf : List ℕ → ℕ → Option ℕ
+cellOf l i = cond (isCell l i) (some (cellAt l i)) none
+
+-- what each answer to a look at a cell says: the number that it holds, or that no cell is there
+abbrev pub cellIn : Cell → Option ℕ
+cellIn (Holds v) = some v
+cellIn Outside = none
 
 -- the list with a number's two bytes at a place
 unfoldable pub stored : List ℕ → ℕ → ℕ → List ℕ

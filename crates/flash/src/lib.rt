@@ -8,6 +8,7 @@ ghost use Rattle.flash.specs.Flash.{
   Outcome,
   cellNumber,
   cellOf,
+  cellIn,
   numberIn,
   programmed,
   erasure,
@@ -35,7 +36,7 @@ fn joined(low: u8, high: u8) -> u16
 
 // The cell at a place: Outside where the place is odd or a byte of the cell lies past the end.
 pub fn cell_at(page: &[u8], at: usize) -> Cell
-    ensures { λ r. ⌜ r ≡ cellOf (now (page .entry)) at ⌝ }
+    ensures { λ r. ⌜ cellIn r ≡ cellOf (now (page .entry)) at ⌝ }
 {
     if at % 2 != 0 {
         return Cell::Outside;

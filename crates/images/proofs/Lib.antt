@@ -1,2 +1,3 @@
-pub mod Overlay
+pub mod Laid
 pub mod Laws
+pub mod Overlay

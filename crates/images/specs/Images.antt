@@ -1,22 +1,19 @@
 -- Images (document 01, "Pages, cells", and the first sentence of "The walk of a save").
--- In order: the image of a page and of the live page; bytes laid in; a cell of the new image.
--- Laws: proofs/Laws.antt. Assumes nothing.
+-- In order: the image of the live page; bytes laid in; a cell of the new image.
+-- Not here: the image of a page (the crate pages). Laws: proofs/. Assumes nothing.
 use Prim.Native.Nat.{ℕ, _+_, _-_}
 use mathlib.Core.Bool.{cond}
 use mathlib.Core.List.{List, _++_}
 use mathlib.Core.Option.{Option, none, some}
 use lib.Dec.{leb}
 use lib.ListN.{length, take, drop, replicate}
-use Rattle.flash.specs.declared.Cell.{Cell}
-use Rattle.flash.specs.declared.Cell.the-variants.{Holds, Outside}
 use Rattle.flash.specs.Flash.{cellOf}
 use Rattle.pages.specs.declared.Live.{Live}
 use Rattle.pages.specs.declared.Live.the-variants.{Nowhere, On}
+use Rattle.pages.specs.declared.PageOffset.{PageOffset}
+use Rattle.pages.specs.declared.ImageOffset.{ImageOffset}
 use Rattle.pages.specs.Pages.{onSide, statusOf}
-
--- "Bytes 4 to P - 1 are the image"
-abbrev pub imageOf : List ℕ → List ℕ
-imageOf page = drop 4 page
+use Rattle.pages.specs.Offsets.{managementSize, imageOf, toPage}
 
 -- the image of the page on the live side, if there is one
 abbrev pub imageOn : Live → List ℕ → List ℕ → Option (List ℕ)
@@ -32,18 +29,30 @@ abbrev pub orBlank : ℕ → Option (List ℕ) → List ℕ
 orBlank n none = replicate n 255
 orBlank n (some image) = image
 
--- an image with data laid in at an image offset: "every other image byte keeps its number"
+-- ---- bytes laid in
+-- bytes with others laid in from a place on
 unfoldable pub overlaid : List ℕ → ℕ → List ℕ → List ℕ
-overlaid image o d = take o image ++ (d ++ drop (o + length d) image)
+overlaid bytes i d = take i bytes ++ (d ++ drop (i + length d) bytes)
 
--- the cell of the data that lies at an image offset
-unfoldable pub dataCell : ℕ → List ℕ → ℕ → Cell
-dataCell o d i = cond (leb o i) (cellOf d (i - o)) Outside
+-- an image as it stands in a page, "its first byte being page offset 4"
+abbrev pub inPage : List ℕ → List ℕ
+inPage image = replicate managementSize 0xFF ++ image
 
-abbrev pub orElse : Cell → ℕ → ℕ
-orElse (Holds v) other = v
-orElse Outside other = other
+-- an image "with the data laid in at the offset; every other image byte keeps its number"
+unfoldable pub laidIn : List ℕ → PageOffset → List ℕ → List ℕ
+laidIn image o d = imageOf (overlaid (inPage image) (o .0) d)
 
--- a cell of the new image: the data's, else the old image's, else FFFF
-unfoldable pub newCell : List ℕ → ℕ → List ℕ → ℕ → ℕ
-newCell old o d i = orElse (dataCell o d i) (orElse (cellOf old i) 0xFFFF)
+-- ---- a cell of the new image
+-- the number of the data's cell that lies at an image offset, if one does
+unfoldable pub dataCell : PageOffset → List ℕ → ImageOffset → Option ℕ
+dataCell o d i =
+    let at = toPage i .0 in
+    cond (leb (o .0) at) (cellOf d (at - o .0)) none
+
+abbrev pub orElse : Option ℕ → ℕ → ℕ
+orElse (some v) other = v
+orElse none other = other
+
+-- the data's, else the old image's, else FFFF
+unfoldable pub newCell : List ℕ → PageOffset → List ℕ → ImageOffset → ℕ
+newCell old o d i = orElse (dataCell o d i) (orElse (cellOf old (i .0)) 0xFFFF)

@@ -3,15 +3,18 @@
 // What the new image is, and what each of its cells holds, is in specs/Images.antt.
 use flash::Cell;
 use pages::ImageOffset;
+use pages::PageOffset;
 ghost use mathlib.Core.Path.{_≡_};
+ghost use Rattle.flash.specs.Flash.{cellIn};
 ghost use Rattle.images.specs.Images.{dataCell, newCell};
 
-// The cell of the data that lies at an image offset; Outside where the data doesn't reach.
-fn data_cell(offset: ImageOffset, data: &[u8], at: ImageOffset) -> Cell
-    ensures { λ r. ⌜ r ≡ dataCell (offset .0) (now («data» .entry)) (at .0) ⌝ }
+// The cell of the data, saved at a page offset, that lies at an image offset; Outside where the data
+// doesn't reach.
+fn data_cell(offset: PageOffset, data: &[u8], at: ImageOffset) -> Cell
+    ensures { λ r. ⌜ cellIn r ≡ dataCell offset (now («data» .entry)) at ⌝ }
 {
     let start = offset.0;
-    let place = at.0;
+    let place = at.to_page().0;
     if place < start {
         return Cell::Outside;
     }
@@ -20,9 +23,9 @@ fn data_cell(offset: ImageOffset, data: &[u8], at: ImageOffset) -> Cell
 
 // The number of a cell of the new image: that of the data laid in, else that of the old image, else
 // FFFF.
-pub fn new_cell(old: &[u8], offset: ImageOffset, data: &[u8], at: ImageOffset) -> u16
+pub fn new_cell(old: &[u8], offset: PageOffset, data: &[u8], at: ImageOffset) -> u16
     ensures { λ r.
-        ⌜ r ≡ newCell (now (old .entry)) (offset .0) (now («data» .entry)) (at .0) ⌝ }
+        ⌜ r ≡ newCell (now (old .entry)) offset (now («data» .entry)) at ⌝ }
 {
     match data_cell(offset, data, at) {
         Cell::Holds(new) => new,

@@ -1,5 +1,5 @@
 -- Laws of what a walk begins with.
--- In order: where erased-or-not counts; which pages it is of; both together.
+-- In order: where erased-or-not counts; which pages it is of; both together; what an answer says.
 -- Assumes nothing.
 use Prim.Native.Nat.{ℕ}
 use mathlib.Core.Path.{_≡_, sym, ap, _∙_}
@@ -13,13 +13,14 @@ use Rattle.pages.specs.declared.State.{State}
 use Rattle.pages.specs.declared.Live.{Live}
 use Rattle.pages.specs.declared.Live.the-variants.{Nowhere, On}
 use Rattle.pages.specs.declared.Status.{Status}
-use Rattle.pages.specs.Pages.{onSide, statusOf, lineOf, liveOf}
+use Rattle.pages.specs.Pages.{onSide, statusOf, lineOf, liveOf, standing}
+use Rattle.pages.proofs.Laws.{line-same, standing-same}
 use Rattle.pages.proofs.Table.{status-live}
 use Rattle.plans.specs.declared.Request.{Request}
 use Rattle.plans.specs.declared.Request.the-variants.{Save, Format}
 use Rattle.plans.specs.Plans.{other, counts, othersErased}
 use Rattle.lines.specs.declared.Start.{Start}
-use Rattle.lines.specs.Starts.{startOf}
+use Rattle.lines.specs.Starts.{startOf, Begins, beginsIn}
 
 pub counts-none : (request : Request) (start : State) → lineOf start ≡ 0 → true ≡ counts request start
 counts-none Save start e = sym (simp (eq-eqb (lineOf start) 0 e))
@@ -53,13 +54,20 @@ pub erased-idle : (a b : Bool) → a ≡ false → false ≡ (a && b)
 erased-idle a b e = sym (simp e)
 
 -- the live side that was found is that of the state
-pub looked : (request : Request) (l r : List ℕ) (s : Status) (t : Bool) → s ≡ statusOf l r
+pub looked : (request : Request) (l r : List ℕ) (s : Status) (t : Bool) → standing s ≡ standing (statusOf l r)
     → t ≡ (counts request (s .state) && othersErased (s .live) l r)
     → _≡_ {A = Start} (record { state = s .state; erased = t }) (startOf request l r)
-looked request l r s t e h =
+looked request l r s t told h =
+    let e : s ≡ statusOf l r = standing-same s (statusOf l r) told in
     let p : s .state ≡ statusOf l r .state = ap (λ (x : Status). x .state) e in
     let q : t ≡ (counts request (statusOf l r .state) && othersErased (liveOf (statusOf l r .state)) l r) =
     h
     ∙ ap (λ (x : Status). counts request (x .state) && othersErased (x .live) l r) e
     ∙ ap (λ (x : Live). counts request (statusOf l r .state) && othersErased x l r) (status-live l r) in
     λ i. record { state = p i; erased = q i }
+
+-- a start is known by what it says
+pub start-same : (a b : Start) → beginsIn a ≡ beginsIn b → a ≡ b
+start-same a b e =
+    let states : a .state ≡ b .state = line-same (a .state) (b .state) (ap (λ (x : Begins). x .line) e) in
+    λ i. record { state = states i; erased = e i .erased }

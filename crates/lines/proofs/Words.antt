@@ -16,8 +16,8 @@ use Rattle.pages.specs.declared.State.the-variants.{S0}
 use Rattle.pages.specs.declared.State.{State}
 use Rattle.pages.specs.Pages.{wordOf, statusOf, lineOf, rowOf}
 use Rattle.pages.proofs.Table.{words-of, state-of, spare-none}
+use Rattle.pages.proofs.Laws.{line-same}
 use Rattle.plans.specs.Plans.{clean, meets}
-use Rattle.plans.proofs.Laws.{line-same}
 
 pub meets-same : (wanted s : State) → meets wanted s ≡ true → s ≡ wanted
 meets-same wanted s e = line-same s wanted (sym (eqb-true (lineOf wanted) (lineOf s) e))

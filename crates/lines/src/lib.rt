@@ -13,7 +13,7 @@ ghost use lib.Dec.{eqb};
 ghost use Rattle.pages.specs.declared.State.the-variants.{S0};
 ghost use Rattle.pages.specs.Pages.{wordOf, rowOf, statusOf};
 ghost use Rattle.plans.specs.Plans.{counts, othersErased, clean, meets};
-ghost use Rattle.lines.specs.Starts.{startOf};
+ghost use Rattle.lines.specs.Starts.{startOf, beginsIn};
 
 // The line of two pages, and whether what has to be blank is erased already.
 pub struct Start {
@@ -68,7 +68,8 @@ fn find_erased(request: Request, start: State, live: Live, left: &[u8], right: &
 // The line of the pages and, where it counts for the request, whether both pages (at line 0) or the
 // page that isn't live (elsewhere) are erased; else not.
 pub fn start_of(request: Request, left: &[u8], right: &[u8]) -> Start
-    ensures { λ r. ⌜ r ≡ startOf request (now (left .entry)) (now (right .entry)) ⌝ }
+    ensures { λ r.
+        ⌜ beginsIn r ≡ beginsIn (startOf request (now (left .entry)) (now (right .entry))) ⌝ }
 {
     let status = pages::status_of(left, right);
     let state = status.state;

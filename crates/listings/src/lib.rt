@@ -1,8 +1,7 @@
 // The lines of a script: whether each is right, what is wrong with one that isn't, and how one is
 // printed. The lines printed are in docs/FORMATS.md.
-use texts::Call;
+use asks::Call;
 use texts::Fault;
-ghost use Prim.Native.Nat.{_≤_};
 
 // Prints what stands before the word that has a fault, or after it.
 fn before_word(fault: Fault) {
@@ -45,7 +44,7 @@ pub fn fail(name: &[u8], why: &[u8]) {
 
 // Whether a line is right; where it isn't, prints its fault.
 fn is_right(name: &[u8], number: u64, line: &[u8]) -> bool {
-    match texts::parse(line) {
+    match asks::parse(line) {
         Call::Wrong(fault, place) => {
             fail(name, b" line ");
             prints::number(number);
@@ -92,16 +91,41 @@ fn print_bytes(line: &[u8]) {
     }
 }
 
-// Prints a line that has a call with its number, tabs as blanks, and says how many calls it has.
-pub fn print_line(number: u64, line: &[u8]) -> u64
-    ensures { λ r. ⌜ r ≤ 1 ⌝ }
-{
+// Prints a line that has a call with its number, tabs as blanks.
+pub fn print_line(number: u64, line: &[u8]) {
     if line.len() == 0 {
-        return 0;
+        return;
     }
     prints::labelled(b"script line ", number);
     prints::text(b": ");
     print_bytes(line);
     prints::text(b"\n");
-    1
+}
+
+// Prints the last line of a script that was made, with the number of its calls.
+pub fn print_calls(text: &[u8]) {
+    let mut at: usize = 0;
+    let mut calls: u64 = 0;
+    while at < text.len() {
+        if 0 < texts::line_at(text, at).len() {
+            calls = std::num::wrapping_add_u64(calls, 1);
+        }
+        at = texts::next_line(text, at);
+    }
+    prints::labelled(b"ok: replayed, calls: ", calls);
+    prints::text(b"\n");
+}
+
+// Prints the line that begins at a place with its number.
+pub fn print_line_at(text: &[u8], place: usize) {
+    let mut at: usize = 0;
+    let mut number: u64 = 1;
+    while at < text.len() {
+        if at == place {
+            print_line(number, texts::line_at(text, at));
+            return;
+        }
+        number = std::num::wrapping_add_u64(number, 1);
+        at = texts::next_line(text, at);
+    }
 }

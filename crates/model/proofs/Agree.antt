@@ -17,20 +17,24 @@ use Rattle.pages.specs.declared.Side.{Side}
 use Rattle.pages.specs.declared.Side.the-variants.{Left, Right}
 use Rattle.pages.specs.declared.Live.{Live}
 use Rattle.pages.specs.declared.Live.the-variants.{Nowhere, On}
+use Rattle.pages.specs.declared.PageOffset.{PageOffset}
 use Rattle.pages.specs.Pages.{onSide, liveOf, statusOf}
+use Rattle.pages.specs.Offsets.{imageOf, imageSize}
 use Rattle.pages.proofs.Table.{status-live}
 use Rattle.requests.specs.Numbers.{requestNumber, pagesNumber}
-use Rattle.requests.proofs.Laws.{Legal, RightPages, legal, legal-none}
+use Rattle.requests.specs.Legal.{RightPages, Legal}
+use Rattle.requests.proofs.Laws.{legal, legal-none}
 use Rattle.reads.specs.Reads.{liveNumber, livePage, readNumber, readPart, outputAfter, filled}
 use Rattle.steps.specs.Steps.{tried}
-use Rattle.images.specs.Images.{imageOn, liveImage, orBlank, overlaid}
-use Rattle.images.proofs.Overlay.{length-overlaid, overlaid-twice}
+use Rattle.images.specs.Images.{imageOn, liveImage, orBlank, laidIn}
+use Rattle.images.proofs.Laid.{asked-at, length-laid, laid-twice}
 use Rattle.plans.specs.declared.Entry.{Entry}
 use Rattle.plans.specs.declared.Request.the-variants.{Save, Format}
 use Rattle.walks.specs.declared.Walk.{Walk}
 use Rattle.plans.specs.Plans.{plan, meets, nothing}
 use Rattle.walks.proofs.Sizes.{base-length, right-numbers}
 use Rattle.walks.specs.Walks as W
+use Rattle.tries.specs.Tries.{attempt}
 use Rattle.walks.specs.Walks.{
   source,
   newImage,
@@ -41,7 +45,6 @@ use Rattle.walks.specs.Walks.{
   beginFormat,
   wrongFormat,
   wrongNumbers,
-  attempt,
   advanced,
   kept,
   after,
@@ -73,40 +76,42 @@ use Rattle.model.specs.Book.{
   told,
   entry,
 }
-use Rattle.plans.proofs.Bytes.{bytes-drop, bytes-blank, bytes-overlaid, tried-keeps}
+use Rattle.plans.proofs.Bytes.{bytes-drop, bytes-blank, bytes-laid, tried-keeps}
 use Rattle.plans.proofs.Good.{Image?, switch, Good, good-shows}
-use Rattle.plans.proofs.Begins.{good-save, good-format}
+use Rattle.plans.proofs.Begins.{Sized, good-save, good-format}
+use Rattle.model.specs.Decided.{askedOf}
 use Rattle.model.proofs.Once.{decides, once-plan}
 
 -- ---- a walk in hand and its job, on pages of length p that show an image
 -- the list of a walk's steps where a read shows an image
 abbrev pub listAt : Walk → List ℕ → Image? → List Entry
 listAt w d image =
-    plan (w .request) (w .start) (w .erased) (newImage (liveOf (w .start)) (w .page) (w .offset .0) d image)
+    plan (w .request) (w .start) (w .erased) (newImage (liveOf (w .start)) (w .page) (w .offset) d image)
 
 -- 1. The list is the same while a read shows the image now and when it shows the one then.
 -- 2. The request's effect makes the one then of either.
 -- 3. The rest of the list is Good, and decides where the job says.
-pub record Walking (p : ℕ) (now : Image?) (l r : List ℕ) (h : Hand) (j : Job) : Type 0 where
+pub record Walking (p : ℕ) (current : Image?) (l r : List ℕ) (h : Hand) (j : Job) : Type 0 where
   pub list : List Entry
   pub then : Image?
+  pub asks : askedOf h ≡ j .asked
   pub held : h .held ≡ dataOf (j .asked)
   pub numbers : wrongNumbers (h .walk) p p (length (h .held)) ≡ false
   pub place : h .walk .place ≡ j .made
   pub within : j .made ≤ length list
   pub total : j .total ≡ length list
   pub flags : (k : ℕ) → k < length list → getD list k nothing .commits ≡ eqb (k + 1) (j .commit)
-  pub nowList : listAt (h .walk) (h .held) now ≡ list
+  pub nowList : listAt (h .walk) (h .held) current ≡ list
   pub thenList : listAt (h .walk) (h .held) then ≡ list
-  pub nowEffect : effect p (j .asked) now ≡ then
+  pub nowEffect : effect p (j .asked) current ≡ then
   pub thenEffect : effect p (j .asked) then ≡ then
-  pub good : Good now then (drop (j .made) list) l r
+  pub good : Good current then (drop (j .made) list) l r
 
 abbrev pub Hands : ℕ → Image? → List ℕ → List ℕ → Option Hand → Option Job → Type 0
-Hands p now l r none none = Unit {0}
-Hands p now l r none (some j) = ⊥
-Hands p now l r (some h) none = ⊥
-Hands p now l r (some h) (some j) = Walking p now l r h j
+Hands p current l r none none = Unit {0}
+Hands p current l r none (some j) = ⊥
+Hands p current l r (some h) none = ⊥
+Hands p current l r (some h) (some j) = Walking p current l r h j
 
 -- ---- the board and the book
 pub record Agree (b : Board) (k : Book) : Type 0 where
@@ -123,7 +128,8 @@ live-number : (v : Live) (l r : List ℕ) → liveNumber v ≡ imageNumber (imag
 live-number Nowhere l r = refl
 live-number (On s) l r = refl
 
-pub same-number : (b : Board) (k : Book) (o n : ℕ) → Agree b k → readNumber (b .left) (b .right) o n ≡ readBook k o n
+pub same-number : (b : Board) (k : Book) (o : PageOffset) (n : ℕ) → Agree b k → readNumber (b .left)
+    (b .right) o n ≡ readBook k o n
 unfolding readNumber liveImage
 same-number b k o n a =
     let rest : liveNumber (statusOf (b .left) (b .right) .live) ≡ imageNumber (k .image) =
@@ -131,20 +137,23 @@ same-number b k o n a =
     λ i. requestNumber (a .left i) (a .right i) o n (rest i)
 
 -- a legal read's bytes, counted from the page and from the image
-same-bytes : (v : Live) (l r : List ℕ) (o n : ℕ) → 4 ≤ o
-    → take n (drop o (livePage v l r)) ≡ askedBytes (imageOn v l r) o n
-same-bytes Nowhere l r o n h = ap (take n) (drop-nil o) ∙ take-nil n
+same-bytes : (v : Live) (l r : List ℕ) (o : PageOffset) (n : ℕ) → 4 ≤ o .0
+    → take n (drop (o .0) (livePage v l r)) ≡ askedBytes (imageOn v l r) o n
+same-bytes Nowhere l r o n h = ap (take n) (drop-nil (o .0)) ∙ take-nil n
 same-bytes (On s) l r o n h =
-    let e : o ≡ 4 + (o - 4) = omega arith in
-    ap (take n) (ap (λ (k : ℕ). drop k (onSide s l r)) e ∙ sym (drop-drop (o - 4) 4 (onSide s l r)))
+    let e : o .0 ≡ 4 + (o .0 - 4) = omega arith in
+    ap (take n)
+    (ap (λ (k : ℕ). drop k (onSide s l r)) e ∙ sym (drop-drop (o .0 - 4) 4 (onSide s l r))
+    ∙ sym (asked-at (imageOf (onSide s l r)) o h))
 
-pub same-part : (b : Board) (k : Book) (o n : ℕ) → Agree b k → readBook k o n ≡ 0
+pub same-part : (b : Board) (k : Book) (o : PageOffset) (n : ℕ) → Agree b k → readBook k o n ≡ 0
     → readPart (b .left) (b .right) o n ≡ askedBytes (k .image) o n
 unfolding readPart liveImage
 same-part b k o n a z =
     let m : readNumber (b .left) (b .right) o n ≡ 0 = same-number b k o n a ∙ z in
     let h = legal (k .page) (k .page) o n (imageNumber (k .image)) z .0 in
-    ap (λ (t : Bool). cond t (take n (drop o (livePage (statusOf (b .left) (b .right) .live) (b .left) (b .right)))) [])
+    ap (λ (t : Bool). cond t (take n (drop (o .0) (livePage (statusOf (b .left) (b .right) .live) (b .left)
+    (b .right)))) [])
     (eq-eqb (readNumber (b .left) (b .right) o n) 0 m)
     ∙ same-bytes (statusOf (b .left) (b .right) .live) (b .left) (b .right) o n (h .inImage)
     ∙ ap (λ (i : Image?). askedBytes i o n) (a .shows)
@@ -158,7 +167,7 @@ where-none n f other x y h = go (eqb n 0) refl
     go true q = ap f (h (eqb-true n 0 q))
     go false q = refl
 
-pub same-read : (b : Board) (k : Book) (o n : ℕ) → Agree b k
+pub same-read : (b : Board) (k : Book) (o : PageOffset) (n : ℕ) → Agree b k
     → partRead (readNumber (b .left) (b .right) o n) (readPart (b .left) (b .right) o n)
     ≡ partRead (readBook k o n) (askedBytes (k .image) o n)
 same-read b k o n a =
@@ -166,7 +175,7 @@ same-read b k o n a =
     ∙ where-none (readBook k o n) C.bytes (C.number (readBook k o n)) (readPart (b .left) (b .right) o n)
     (askedBytes (k .image) o n) (same-part b k o n a)
 
-pub same-output : (b : Board) (k : Book) (o : ℕ) (out : List ℕ) → Agree b k
+pub same-output : (b : Board) (k : Book) (o : PageOffset) (out : List ℕ) → Agree b k
     → C.output (filled (b .left) (b .right) o out .number) (filled (b .left) (b .right) o out .bytes)
     ≡ C.output (readBook k o (length out))
     (outputAfter (readBook k o (length out)) (askedBytes (k .image) o (length out)) out)
@@ -180,7 +189,7 @@ same-output b k o out a =
 
 -- ---- beginning
 -- the live image is made from exactly if a page is live
-source-live : (l r : List ℕ) → source (liveOf (statusOf l r .state)) (liveImage l r) ≡ liveImage l r
+pub source-live : (l r : List ℕ) → source (liveOf (statusOf l r .state)) (liveImage l r) ≡ liveImage l r
 unfolding liveImage
 source-live l r =
     ap (λ (v : Live). source v (imageOn (statusOf l r .live) l r)) (sym (status-live l r))
@@ -203,58 +212,84 @@ base-bytes (On s) (On t) l r n h k = side-bytes t l r h k
 -- and as long as the pages are after the management bytes
 pub record Based (p : ℕ) (image : List ℕ) : Type 0 where
   pub bytes : Bytes image
-  pub size : length image ≡ p - 4
+  pub size : length image ≡ imageSize p
 
 pub based : (v : Live) (l r : List ℕ) (p : ℕ) → Bytes l → Bytes r → length l ≡ p → length r ≡ p
-    → Based p (orBlank (p - 4) (source v (liveImage l r)))
+    → Based p (orBlank (imageSize p) (source v (liveImage l r)))
 unfolding liveImage
 based v l r p h k e f =
     record {
-      bytes = base-bytes v (statusOf l r .live) l r (p - 4) h k;
+      bytes = base-bytes v (statusOf l r .live) l r (imageSize p) h k;
       size = base-length v (statusOf l r .live) l r p e f;
     }
 
 -- a list made from the new image is the one made from the old one
-again : (v : Live) (n o : ℕ) (d : List ℕ) (image : Image?) → o + length d ≤ length (orBlank n (source v image))
-    → overlaid (orBlank n (source v (some (overlaid (orBlank n (source v image)) o d)))) o d
-    ≡ overlaid (orBlank n (source v image)) o d
-again Nowhere n o d image h = refl
-again (On s) n o d image h = overlaid-twice (orBlank n image) o d h
+again : (v : Live) (n : ℕ) (o : PageOffset) (d : List ℕ) (image : Image?) → 4 ≤ o .0
+    → o .0 + length d ≤ 4 + length (orBlank n (source v image))
+    → laidIn (orBlank n (source v (some (laidIn (orBlank n (source v image)) o d)))) o d
+    ≡ laidIn (orBlank n (source v image)) o d
+again Nowhere n o d image h k = refl
+again (On s) n o d image h k = laid-twice (orBlank n image) o d h k
 
-numbers-right : (w : Walk) (p n : ℕ) → requestNumber p p (w .offset .0) (w .len) 0 ≡ 0 → w .page ≡ p → w .len ≡ n
-    → wrongFormat (w .request) (w .offset .0) (w .len) ≡ false → wrongNumbers w p p n ≡ false
+numbers-right : (w : Walk) (p n : ℕ) → requestNumber p p (w .offset) (w .len) 0 ≡ 0 → w .page ≡ p → w .len ≡ n
+    → wrongFormat (w .request) (w .offset) (w .len) ≡ false → wrongNumbers w p p n ≡ false
 unfolding wrongNumbers
 numbers-right w p n z e f g =
     simp (
-      eq-eqb (requestNumber p p (w .offset .0) (w .len) 0) 0 z,
+      eq-eqb (requestNumber p p (w .offset) (w .len) 0) 0 z,
       eq-eqb p (w .page) (sym e),
       eq-eqb n (w .len) (sym f),
       g,
     )
 
-pub begun-save : (l r : List ℕ) (p o : ℕ) (d : List ℕ) → Bytes l → Bytes r → Bytes d → length l ≡ p → length r ≡ p
-    → requestNumber p p o (length d) 0 ≡ 0
+-- the new image of a legal save, and the pages it is for
+pub record Fits (l r : List ℕ) (p : ℕ) (o : PageOffset) (d base : List ℕ) : Type 0 where
+  pub fit : o .0 + length d ≤ 4 + length base
+  pub sized : Sized l r (laidIn base o d)
+
+pub new-fits : (v : Live) (l r : List ℕ) (p : ℕ) (o : PageOffset) (d : List ℕ) → Bytes l → Bytes r → Bytes d
+    → length l ≡ p → length r ≡ p → Legal p p o (length d)
+    → Fits l r p o d (orBlank (imageSize p) (source v (liveImage l r)))
+new-fits v l r p o d bl br bd el er h =
+    let base = orBlank (imageSize p) (source v (liveImage l r)) in
+    let ok : Based p base = based v l r p bl br el er in
+    let size : length base ≡ imageSize p = ok .size in
+    let fit : o .0 + length d ≤ 4 + length base = omega (arith, h .ends, h .inImage) in
+    let newSize : length (laidIn base o d) ≡ length base = length-laid base o d (h .inImage) fit in
+    record {
+      fit = fit;
+      sized =
+          record {
+            bytesLeft = bl;
+            bytesRight = br;
+            bytesNew = bytes-laid base o d (ok .bytes) bd;
+            left = omega (arith, h .least);
+            right = omega (arith, h .least);
+            even = omega (arith, h .evenPage, h .least);
+          };
+    }
+
+pub begun-save : (l r : List ℕ) (p : ℕ) (o : PageOffset) (d : List ℕ) → Bytes l → Bytes r → Bytes d → length l ≡ p
+    → length r ≡ p → requestNumber p p o (length d) 0 ≡ 0
     → Walking p (liveImage l r) l r
-    (record { walk = firstWalk Save l r (record { 0 = o }) (length d); held = d })
+    (record { walk = firstWalk Save l r o (length d); held = d })
     (jobOf (save o d) (listFor (save o d) l r))
 begun-save l r p o d bl br bd el er z =
     let h : Legal p p o (length d) = legal p p o (length d) 0 z .0 in
     let st = statusOf l r .state in
     let v = liveOf st in
-    let w = firstWalk Save l r (record { 0 = o }) (length d) in
-    let base = orBlank (p - 4) (source v (liveImage l r)) in
-    let same : base ≡ orBlank (p - 4) (liveImage l r) = ap (orBlank (p - 4)) (source-live l r) in
-    let ok : Based p base = based v l r p bl br el er in
-    let new = overlaid base (o - 4) d in
-    let size : length base ≡ p - 4 = ok .size in
-    let fit : o - 4 + length d ≤ length base = omega (arith, h .ends, h .inImage) in
-    let newSize : length new ≡ length base = length-overlaid base (o - 4) d fit in
+    let w = firstWalk Save l r o (length d) in
+    let base = orBlank (imageSize p) (source v (liveImage l r)) in
+    let same : base ≡ orBlank (imageSize p) (liveImage l r) = ap (orBlank (imageSize p)) (source-live l r) in
+    let f : Fits l r p o d base = new-fits v l r p o d bl br bd el er h in
+    let new = laidIn base o d in
     let list = plan Save st (w .erased) new in
     let from : (i : Image?) → listAt w d i ≡ plan Save st (w .erased) (newImage v p o d i) =
     λ i. ap (λ (k : ℕ). plan Save st (w .erased) (newImage v k o d i)) el in
     record {
       list = list;
       then = some new;
+      asks = refl;
       held = refl;
       numbers = numbers-right w p (length d) z el refl refl;
       place = refl;
@@ -266,31 +301,22 @@ begun-save l r p o d bl br bd el er z =
           ∙ ap (λ (x : List Entry). eqb (k + 1) (commitPlace x)) (sym (from (liveImage l r)));
       nowList = from (liveImage l r);
       thenList =
-          from (some new) ∙ ap (plan Save st (w .erased)) (again v (p - 4) (o - 4) d (liveImage l r) fit);
-      nowEffect = ap (λ (x : List ℕ). some (overlaid x (o - 4) d)) (sym same);
-      thenEffect = ap some (overlaid-twice base (o - 4) d fit);
-      good =
-          good-save l r new st
-          (record {
-            bytesLeft = bl;
-            bytesRight = br;
-            bytesNew = bytes-overlaid base (o - 4) d (ok .bytes) bd;
-            left = omega (arith, h .least);
-            right = omega (arith, h .least);
-            even = omega (arith, h .evenPage, h .least);
-          })
-          refl;
+          from (some new)
+          ∙ ap (plan Save st (w .erased)) (again v (imageSize p) o d (liveImage l r) (h .inImage) (f .fit));
+      nowEffect = ap (λ (x : List ℕ). some (laidIn x o d)) (sym same);
+      thenEffect = ap some (laid-twice base o d (h .inImage) (f .fit));
+      good = good-save l r new st (f .sized) refl;
     }
 
-begun-format : (l r : List ℕ) (p : ℕ) → Bytes l → Bytes r → length l ≡ p → length r ≡ p → RightPages p p
+pub begun-format : (l r : List ℕ) (p : ℕ) → Bytes l → Bytes r → length l ≡ p → length r ≡ p → RightPages p p
     → Walking p (liveImage l r) l r
     (record { walk = firstWalk Format l r (record { 0 = 4 }) 0; held = [] })
     (jobOf format (listFor format l r))
 begun-format l r p bl br el er h =
     let st = statusOf l r .state in
     let w = firstWalk Format l r (record { 0 = 4 }) 0 in
-    let none-given : requestNumber p p 4 0 0 ≡ 0 =
-    legal-none p p 4 0 0
+    let none-given : requestNumber p p (record { 0 = 4 }) 0 0 ≡ 0 =
+    legal-none p p (record { 0 = 4 }) 0 0
     (record {
       same = refl;
       evenPage = h .evenPage;
@@ -305,6 +331,7 @@ begun-format l r p bl br el er h =
     record {
       list = listFor format l r;
       then = none;
+      asks = refl;
       held = refl;
       numbers = numbers-right w p 0 none-given el refl refl;
       place = refl;
@@ -353,10 +380,10 @@ take-up b k asked w list m n a e f = go (eqb m 0) (eqb n 0) refl refl
     go false true p q = absurd (eqb-false m 0 p (e ∙ eqb-true n 0 q))
     go false false p q = (ap C.number e, a)
 
-pub follow-save : (b : Board) (k : Book) (o : ℕ) (d : List ℕ) → Bytes d → Agree b k → Follows b k (C.save o d)
+pub follow-save : (b : Board) (k : Book) (o : PageOffset) (d : List ℕ) → Bytes d → Agree b k → Follows b k (C.save o d)
 unfolding turn entry beginSave
 follow-save b k o d bd a =
-    take-up b k (save o d) (firstWalk Save (b .left) (b .right) (record { 0 = o }) (length d))
+    take-up b k (save o d) (firstWalk Save (b .left) (b .right) o (length d))
     (listFor (save o d) (b .left) (b .right))
     (requestNumber (length (b .left)) (length (b .right)) o (length d) 0)
     (requestNumber (k .page) (k .page) o (length d) 0) a
@@ -365,7 +392,7 @@ follow-save b k o d bd a =
     subst
     (λ (i : Image?).
     Walking (k .page) i (b .left) (b .right)
-    (record { walk = firstWalk Save (b .left) (b .right) (record { 0 = o }) (length d); held = d })
+    (record { walk = firstWalk Save (b .left) (b .right) o (length d); held = d })
     (jobOf (save o d) (listFor (save o d) (b .left) (b .right))))
     (a .shows)
     (begun-save (b .left) (b .right) (k .page) o d (a .bytesLeft) (a .bytesRight) bd (a .left) (a .right) z))
@@ -388,9 +415,9 @@ follow-format b k a =
 
 -- ---- stepping
 -- what holds of either image holds of the one shown
-either : (P : Image? → Type 0) (t : Bool) (now then : Image?) → P now → P then → P (switch t now then)
-either P true now then p q = q
-either P false now then p q = p
+either : (P : Image? → Type 0) (t : Bool) (current then : Image?) → P current → P then → P (switch t current then)
+either P true current then p q = q
+either P false current then p q = p
 
 -- data of another length is number 6
 or-true : (a b c : Bool) → (a || b || true || c) ≡ true
@@ -403,11 +430,11 @@ unfolding wrongNumbers
 wrong-length w p q n h =
     ap
     (λ (t : Bool).
-    not (eqb (requestNumber p q (w .offset .0) (w .len) 0) 0) || not (eqb p (w .page)) || not t
-    || wrongFormat (w .request) (w .offset .0) (w .len))
+    not (eqb (requestNumber p q (w .offset) (w .len) 0) 0) || not (eqb p (w .page)) || not t
+    || wrongFormat (w .request) (w .offset) (w .len))
     (ne-eqb n (w .len) h)
-    ∙ or-true (not (eqb (requestNumber p q (w .offset .0) (w .len) 0) 0)) (not (eqb p (w .page)))
-    (wrongFormat (w .request) (w .offset .0) (w .len))
+    ∙ or-true (not (eqb (requestNumber p q (w .offset) (w .len) 0) 0)) (not (eqb p (w .page)))
+    (wrongFormat (w .request) (w .offset) (w .len))
 
 -- the three ways that a step ends
 step-refused : (w : Walk) (l r d : List ℕ) → wrongNumbers w (length l) (length r) (length d) ≡ true
@@ -472,16 +499,16 @@ unfolding wrongNumbers
 made-agree b k h j x a g lt e later =
     let l = b .left in
     let r = b .right in
-    let now = k .image in
+    let current = k .image in
     let then = g .then in
     let l′ = tried (x .step) l r .left in
     let r′ = tried (x .step) l r .right in
     let keeps = tried-keeps (x .step) l r (a .bytesLeft) (a .bytesRight) in
-    let shown = switch (x .commits) now then in
+    let shown = switch (x .commits) current then in
     let flag : x .commits ≡ eqb (j .made + 1) (j .commit) =
     ap (λ (z : Entry). z .commits) (sym e) ∙ g .flags (j .made) lt in
-    let same : shown ≡ cond (eqb (j .made + 1) (j .commit)) (effect (k .page) (j .asked) now) now =
-    λ i. cond (flag i) (sym (g .nowEffect) i) now in
+    let same : shown ≡ cond (eqb (j .made + 1) (j .commit)) (effect (k .page) (j .asked) current) current =
+    λ i. cond (flag i) (sym (g .nowEffect) i) current in
     record {
       page = a .page;
       left = keeps .0 .same ∙ a .left;
@@ -493,6 +520,7 @@ made-agree b k h j x a g lt e later =
           record {
             list = g .list;
             then = then;
+            asks = g .asks;
             held = g .held;
             numbers = g .numbers;
             place = ap (λ (n : ℕ). n + 1) (g .place);
@@ -501,12 +529,12 @@ made-agree b k h j x a g lt e later =
             flags = g .flags;
             nowList =
                 subst (λ (i : Image?). listAt (h .walk) (h .held) i ≡ g .list) same
-                (either (λ (i : Image?). listAt (h .walk) (h .held) i ≡ g .list) (x .commits) now then
+                (either (λ (i : Image?). listAt (h .walk) (h .held) i ≡ g .list) (x .commits) current then
                 (g .nowList) (g .thenList));
             thenList = g .thenList;
             nowEffect =
                 subst (λ (i : Image?). effect (k .page) (j .asked) i ≡ then) same
-                (either (λ (i : Image?). effect (k .page) (j .asked) i ≡ then) (x .commits) now then
+                (either (λ (i : Image?). effect (k .page) (j .asked) i ≡ then) (x .commits) current then
                 (g .nowEffect) (g .thenEffect));
             thenEffect = g .thenEffect;
             good =
@@ -538,6 +566,29 @@ book-step k j d held s t e p q =
     ap (λ (x : List ℕ). eqb (length d) (length x)) (sym e) ∙ p in
     λ i. cond (not (o i)) (entered (C.number 6) k) (cond (q i) (entered C.ended k) (entered C.made (oneMore k j)))
 
+-- data of another length leaves the walk in hand, and so does a step of a walk that has ended
+pub another-length : (b : Board) (k : Book) (d : List ℕ) (h : Hand) (j : Job)
+    → (g : Walking (k .page) (k .image) (b .left) (b .right) h j) → eqb (length d) (length (h .held)) ≡ false
+    → stepHand b (some h) d ≡ afterStep (h .held) (kept (W.number 6) (h .walk) (b .left) (b .right))
+another-length b k d h j g p =
+    let w = h .walk in
+    let l = b .left in
+    let r = b .right in
+    let n : length (h .held) ≡ w .len = right-numbers w (k .page) (k .page) (length (h .held)) (g .numbers) .size in
+    let wrong : wrongNumbers w (length l) (length r) (length d) ≡ true =
+    wrong-length w (length l) (length r) (length d) (λ z. eqb-false (length d) (length (h .held)) p (z ∙ sym n)) in
+    ap (λ (c : Bool). afterStep (h .held) (stepOf w l r (cond c (h .held) d))) p
+    ∙ ap (afterStep (h .held)) (step-refused w l r d wrong)
+
+pub all-made : (b : Board) (k : Book) (d : List ℕ) (h : Hand) (j : Job) → Agree b k
+    → (g : Walking (k .page) (k .image) (b .left) (b .right) h j) → eqb (length d) (length (h .held)) ≡ true
+    → j .total ≡ j .made
+    → stepHand b (some h) d ≡ afterStep (h .held) (kept W.ended (h .walk) (b .left) (b .right))
+all-made b k d h j a g p e =
+    held-step b k d h j a g p
+    ∙ ap (afterStep (h .held))
+    (step-ended (h .walk) (g .list) (b .left) (b .right) (sym (g .total) ∙ e ∙ sym (g .place)))
+
 follow-walk : (b : Board) (k : Book) (d : List ℕ) (h : Hand) (j : Job) → Agree b k → b .hand ≡ some h
     → Walking (k .page) (k .image) (b .left) (b .right) h j → Alike (stepHand b (some h) d) (stepBook k (some j) d)
 follow-walk b k d h j a eh g = go (eqb (length d) (length (h .held))) (eqb (j .total) (j .made)) refl refl
@@ -545,24 +596,13 @@ follow-walk b k d h j a eh g = go (eqb (length d) (length (h .held))) (eqb (j .t
     go : (s t : Bool) → eqb (length d) (length (h .held)) ≡ s → eqb (j .total) (j .made) ≡ t
         → Alike (stepHand b (some h) d) (stepBook k (some j) d)
     go false t p q =
-        let w = h .walk in
-        let l = b .left in
-        let r = b .right in
-        let n : length (h .held) ≡ w .len = right-numbers w (k .page) (k .page) (length (h .held)) (g .numbers) .size in
-        let wrong : wrongNumbers w (length l) (length r) (length d) ≡ true =
-        wrong-length w (length l) (length r) (length d) (λ z. eqb-false (length d) (length (h .held)) p (z ∙ sym n)) in
-        alike-by (stepHand b (some h) d) (afterStep (h .held) (kept (W.number 6) w l r)) (stepBook k (some j) d)
-        (entered (C.number 6) k)
-        (ap (λ (c : Bool). afterStep (h .held) (stepOf w l r (cond c (h .held) d))) p
-        ∙ ap (afterStep (h .held)) (step-refused w l r d wrong))
+        alike-by (stepHand b (some h) d) (afterStep (h .held) (kept (W.number 6) (h .walk) (b .left) (b .right)))
+        (stepBook k (some j) d) (entered (C.number 6) k) (another-length b k d h j g p)
         (book-step k j d (h .held) false t (g .held) p q) (refl, unchanged b k h eh a)
     go true true p q =
-        let e : j .total ≡ j .made = eqb-true (j .total) (j .made) q in
-        let n : length (g .list) ≡ h .walk .place = sym (g .total) ∙ e ∙ sym (g .place) in
         alike-by (stepHand b (some h) d) (afterStep (h .held) (kept W.ended (h .walk) (b .left) (b .right)))
         (stepBook k (some j) d) (entered C.ended k)
-        (held-step b k d h j a g p
-        ∙ ap (afterStep (h .held)) (step-ended (h .walk) (g .list) (b .left) (b .right) n))
+        (all-made b k d h j a g p (eqb-true (j .total) (j .made) q))
         (book-step k j d (h .held) true true (g .held) p q) (refl, unchanged b k h eh a)
     go true false p q =
         let l = b .left in

@@ -1,14 +1,12 @@
--- The starred examples of document 01 ("Checked examples, P = 8"): one table under one proof, by computation on the
--- definitions that the contracts cite.
+-- The starred examples of document 01: one table under one proof, by computation on the definitions that the contracts
+-- cite.
 -- Assumes nothing.
-use Prim.Native.Nat.{ℕ}
 use mathlib.Core.Path.{_≡_, refl}
-use mathlib.Core.List.{List, [], _∷_, map, _++_}
-use lib.ListN.{length, replicate}
+use mathlib.Core.List.{map}
 use Rattle.flash.specs.Flash.{isCell, fits, stored, programmed, erasure, isErased}
-use Rattle.pages.specs.Pages.{wordOf, look, lineOf, liveOf, statusOf}
+use Rattle.pages.specs.Pages.{wordOf, look, liveOf, statusOf}
 use Rattle.requests.specs.Numbers.{
-  wrongPages,
+  wrongLengths,
   oddRequest,
   belowImage,
   pastEnd,
@@ -19,129 +17,16 @@ use Rattle.requests.specs.Numbers.{
 }
 use Rattle.reads.specs.Reads.{filled, readNumber, readPart, outputAfter}
 use Rattle.steps.specs.Steps.{tried}
-use Rattle.images.specs.Images.{liveImage, overlaid}
+use Rattle.images.specs.Images.{liveImage, overlaid, laidIn}
 use Rattle.plans.specs.Plans.{saving, formatting}
-use Rattle.walks.specs.Walks.{beginSave, beginFormat, wrongNumbers, attempt, after, stepped, stepOf}
-use Rattle.model.specs.Calls.{
-  Call,
-  Answer,
-  save,
-  format,
-  step,
-  read,
-  readInto,
-  cut,
-  number,
-  begun,
-  made,
-  ended,
-  output,
-  nothing,
-}
-use Rattle.model.specs.Board.{powered, turn, answers, boardAfter}
-
--- what is seen of a sequence of calls: the answers, then both pages and their line
-pub record Seen : Type 0 where
-  pub answered : List Answer
-  pub left : List ℕ
-  pub right : List ℕ
-  pub line : ℕ
-
-abbrev pub seen : List Answer → List ℕ → List ℕ → ℕ → Seen
-seen answered left right line = record { answered = answered; left = left; right = right; line = line }
-
-pub record Example : Type 0 where
-  pub left : List ℕ
-  pub right : List ℕ
-  pub calls : List Call
-  pub expected : Seen
-
-abbrev pub example : List ℕ → List ℕ → List Call → Seen → Example
-example left right calls expected = record { left = left; right = right; calls = calls; expected = expected }
-
-abbrev pub outcome : Example → Seen
-outcome e =
-    let b = powered (e .left) (e .right) in
-    let z = boardAfter b (e .calls) in
-    seen (answers b (e .calls)) (z .left) (z .right) (lineOf (statusOf (z .left) (z .right) .state))
-
-abbrev pub page : ℕ → ℕ → ℕ → ℕ → ℕ → ℕ → ℕ → ℕ → List ℕ
-page a b c d e f g h = a ∷ b ∷ c ∷ d ∷ e ∷ f ∷ g ∷ h ∷ []
-
-abbrev pub four : ℕ → ℕ → ℕ → ℕ → List ℕ
-four a b c d = a ∷ b ∷ c ∷ d ∷ []
-
--- n erased bytes, and n bytes of an output that holds something, so that it is seen whether it is kept
-abbrev pub blank : ℕ → List ℕ
-blank n = replicate n 0xFF
-
-abbrev pub old : ℕ → List ℕ
-old n = replicate n 0x55
-
--- the same step n times
-abbrev pub steps : ℕ → List ℕ → List Call
-steps n d = replicate n (step d)
-
--- the data of the examples
-abbrev pub first : List ℕ
-first = 0x01 ∷ 0x02 ∷ []
-
-abbrev pub second : List ℕ
-second = 0x0A ∷ 0x0B ∷ []
-
--- the pages after the first save, and after the second
-abbrev pub left₃ : List ℕ
-left₃ = page 0x00 0x00 0xFF 0xFF 0x01 0x02 0xFF 0xFF
-
-abbrev pub right₃ : List ℕ
-right₃ = page 0x00 0x00 0x00 0xFF 0xFF 0xFF 0xFF 0xFF
-
-abbrev pub left₇ : List ℕ
-left₇ = page 0x00 0x00 0x00 0xFF 0x01 0x02 0xFF 0xFF
-
-abbrev pub right₇ : List ℕ
-right₇ = page 0x00 0x00 0xFF 0xFF 0x01 0x02 0x0A 0x0B
-
--- a request at an offset, as each read and as a save, on erased pages: its number, and the output kept
-abbrev pub refused : ℕ → List ℕ → ℕ → Example
-refused offset held n =
-    example (blank 8) (blank 8) (readInto offset held ∷ read offset (length held) ∷ save offset held ∷ [])
-    (seen (output n held ∷ number n ∷ number n ∷ []) (blank 8) (blank 8) 0)
-
-abbrev pub examples : List Example
-examples =
-    -- "Two erased pages, read offset 4 length 4: number 5, output FF FF FF FF."
-    example (blank 8) (blank 8) (readInto 4 (old 4) ∷ []) (seen (output 5 (blank 4) ∷ []) (blank 8) (blank 8) 0)
-    -- "Same pages, save 01 02 at 4: five steps. .. line 3."
-    ∷ example (blank 8) (blank 8) (save 4 first ∷ steps 6 first)
-    (seen (begun ∷ replicate 5 made ++ ended ∷ []) left₃ right₃ 3)
-    -- "Then save 0A 0B at 6: six steps. .. line 7."
-    ∷ example left₃ right₃ (save 6 second ∷ steps 7 second)
-    (seen (begun ∷ replicate 6 made ++ ended ∷ []) left₇ right₇ 7)
-    -- "The same walk cut after three steps: read at 4 gives 01 02 FF FF. After four: 01 02 0A 0B."
-    ∷ example left₃ right₃ (save 6 second ∷ steps 3 second ++ cut ∷ readInto 4 (old 4) ∷ [])
-    (seen (begun ∷ replicate 3 made ++ nothing ∷ output 0 (four 0x01 0x02 0xFF 0xFF) ∷ [])
-    left₃ (page 0xFF 0xFF 0xFF 0xFF 0x01 0x02 0x0A 0x0B) 1)
-    ∷ example left₃ right₃ (save 6 second ∷ steps 4 second ++ cut ∷ readInto 4 (old 4) ∷ [])
-    (seen (begun ∷ replicate 4 made ++ nothing ∷ output 0 (four 0x01 0x02 0x0A 0x0B) ∷ [])
-    left₃ (page 0x00 0xFF 0xFF 0xFF 0x01 0x02 0x0A 0x0B) 5)
-    -- "From line 7 above, the walk whole, a format cut after one step: RIGHT 00 00 00 00 01 02 0A 0B, read gives number
-    -- 5."
-    ∷ example left₇ right₇ (format ∷ steps 1 [] ++ cut ∷ readInto 4 (old 4) ∷ [])
-    (seen (begun ∷ made ∷ nothing ∷ output 5 (blank 4) ∷ []) left₇ (page 0x00 0x00 0x00 0x00 0x01 0x02 0x0A 0x0B) 0)
-    -- "Both words FFFF0000: line 0. LEFT word FFFFFF00, RIGHT word FFFFFFFF: line 0."
-    ∷ example left₃ right₇ [] (seen [] left₃ right₇ 0)
-    ∷ example (page 0x00 0xFF 0xFF 0xFF 0x01 0x02 0x03 0x04) (blank 8) []
-    (seen [] (page 0x00 0xFF 0xFF 0xFF 0x01 0x02 0x03 0x04) (blank 8) 0)
-    -- "Offset 5 length 2: 2." "Offset 2: 3. Offset 8 length 0: 4."
-    ∷ refused 5 (old 2) 2
-    ∷ refused 2 (old 2) 3
-    ∷ refused 8 [] 4
-    ∷ []
+use Rattle.tries.specs.Tries.{attempt}
+use Rattle.walks.specs.Walks.{beginSave, beginFormat, wrongNumbers, after, stepped, stepOf}
+use Rattle.model.specs.Board.{turn, answers, boardAfter}
+use Rattle.model.specs.Examples.{Example, outcome, examples}
 
 pub examples-right : map outcome examples ≡ map (λ (e : Example). e .expected) examples
 unfolding isCell fits stored programmed erasure isErased wordOf look liveOf statusOf
-    wrongPages oddRequest belowImage pastEnd endNumber spanNumber requestNumber pagesNumber
-    filled readNumber readPart outputAfter tried liveImage overlaid saving formatting
+    wrongLengths oddRequest belowImage pastEnd endNumber spanNumber requestNumber pagesNumber
+    filled readNumber readPart outputAfter tried liveImage overlaid laidIn saving formatting
     beginSave beginFormat wrongNumbers attempt after stepped stepOf turn answers boardAfter
 examples-right = refl

@@ -2,5 +2,9 @@ pub mod Examples
 pub mod Once
 pub mod Agree
 pub mod Demand3
-pub mod Settled
-pub mod Theorems
+pub mod Decided
+pub mod Shown
+pub mod Among
+pub mod Finished
+pub mod Cuts
+pub mod Orders

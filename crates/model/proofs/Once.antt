@@ -15,6 +15,7 @@ use Rattle.pages.specs.declared.State.{State}
 use Rattle.pages.specs.declared.State.the-variants.{S0, S1, S2, S3, S5, S6, S7, S8, S9, S10}
 use Rattle.pages.specs.declared.Live.{Live}
 use Rattle.pages.specs.declared.Live.the-variants.{Nowhere, On}
+use Rattle.pages.specs.declared.ImageOffset.{ImageOffset}
 use Rattle.pages.specs.Pages.{liveOf}
 use Rattle.steps.specs.declared.Step.the-variants.{Erase}
 use Rattle.plans.specs.declared.Entry.{Entry}
@@ -31,6 +32,7 @@ use Rattle.plans.specs.Plans.{
   clean,
   target,
   cells,
+  firstCell,
   marks,
   saving,
   formatting,
@@ -88,17 +90,18 @@ decides (x ∷ xs) k o h = go (x .commits) refl k o h (λ j q u. decides xs j q 
     go false e (suc k) o h rec = rec k o (omega arith) ∙ shifted k (commitPlace xs)
 
 -- every list of steps has at most one
-once-cells : (st : State) (s : Side) (i : ℕ) (im : List ℕ) (xs : List Entry) → Once xs → Once (cells st s i im ++ xs)
-once-cells st s i [] xs o = o
-once-cells st s i (low ∷ []) xs o = o
-once-cells st s i (low ∷ high ∷ rest) xs o = once-cells st s (i + 2) rest xs o
+once-cells : (st : State) (s : Side) (at : ImageOffset) (im : List ℕ) (xs : List Entry) → Once xs
+    → Once (cells st s at im ++ xs)
+once-cells st s at [] xs o = o
+once-cells st s at (low ∷ []) xs o = o
+once-cells st s at (low ∷ high ∷ rest) xs o = once-cells st s (record { 0 = at .0 + 2 }) rest xs o
 
 once-marks : (v : Live) → Once (marks v)
 once-marks Nowhere = (refl, (refl, tt))
 once-marks (On s) = (refl, (refl, tt))
 
-once-onward : (v : Live) (new : List ℕ) → Once (cells (clean v) (target v) 0 new ++ marks v)
-once-onward v new = once-cells (clean v) (target v) 0 new (marks v) (once-marks v)
+once-onward : (v : Live) (new : List ℕ) → Once (cells (clean v) (target v) firstCell new ++ marks v)
+once-onward v new = once-cells (clean v) (target v) firstCell new (marks v) (once-marks v)
 
 once-erases : (st : State) (v : Live) (t : Bool) (xs : List Entry) → Once xs → Once (erases st v t ++ xs)
 once-erases st Nowhere true xs o = o
@@ -122,7 +125,7 @@ pub once-plan : (request : Request) (st : State) (erased : Bool) (new : List ℕ
 unfolding saving formatting
 once-plan Save st erased new =
     let t = counts Save st && erased in
-    let xs = cells (clean (liveOf st)) (target (liveOf st)) 0 new ++ marks (liveOf st) in
+    let xs = cells (clean (liveOf st)) (target (liveOf st)) firstCell new ++ marks (liveOf st) in
     subst Once (sym (append-assoc (recovery st) (erases (recovered st) (liveOf st) t) xs))
     (once-recovery st (erases (recovered st) (liveOf st) t ++ xs)
     (once-erases (recovered st) (liveOf st) t xs (once-onward (liveOf st) new)))

@@ -1,7 +1,6 @@
 -- The board: two pages and the walk in hand, with every call answered by the very definition that
 -- its function's contract cites.
--- In order: the board; what each call answers and leaves; a sequence of calls; the line after a
--- save.
+-- In order: the board; what each call answers and leaves; a sequence of calls.
 -- Assumes nothing.
 use Prim.Native.Nat.{ℕ}
 use mathlib.Core.Bool.{cond}
@@ -9,11 +8,6 @@ use mathlib.Core.List.{List, [], _∷_}
 use mathlib.Core.Option.{Option, none, some}
 use lib.Dec.{eqb}
 use lib.ListN.{length}
-use Rattle.pages.specs.declared.State.{State}
-use Rattle.pages.specs.declared.State.the-variants.{S3, S7}
-use Rattle.pages.specs.declared.Live.{Live}
-use Rattle.pages.specs.declared.Live.the-variants.{Nowhere, On}
-use Rattle.pages.specs.Pages.{onSide}
 use Rattle.reads.specs.Reads.{readNumber, readPart, filled}
 use Rattle.walks.specs.declared.Walk.{Walk}
 use Rattle.walks.specs.Walks as W
@@ -80,7 +74,7 @@ partRead n part = cond (eqb n 0) (C.bytes part) (C.number n)
 
 -- each call on the board
 unfoldable pub turn : Board → Call → Turn
-turn b (C.save o d) = afterBegin b d (beginSave (b .left) (b .right) (record { 0 = o }) d)
+turn b (C.save o d) = afterBegin b d (beginSave (b .left) (b .right) o d)
 turn b C.format = afterBegin b [] (beginFormat (b .left) (b .right))
 turn b (C.step d) = stepHand b (b .hand) d
 turn b (C.read o n) =
@@ -105,8 +99,3 @@ answers b (c ∷ cs) = turn b c .answer ∷ answers (turn b c .board) cs
 unfoldable pub boardAfter : Board → List Call → Board
 boardAfter b [] = b
 boardAfter b (c ∷ cs) = boardAfter (turn b c .board) cs
-
--- "The pair is now line 7 or line 3": after a save, by the side that was live before it
-abbrev pub settled : Live → State
-settled Nowhere = S3
-settled (On s) = onSide s S7 S3

@@ -1,13 +1,15 @@
 -- The abstract model: document 01's book of demand 3, from that section by itself.
 -- In order: what the book is told; what it holds; each call; a sequence of calls.
 -- Assumes nothing.
-use Prim.Native.Nat.{ℕ, zero, suc, _+_, _-_}
+use Prim.Native.Nat.{ℕ, zero, suc, _+_}
 use mathlib.Core.Bool.{cond, not, _&&_}
 use mathlib.Core.List.{List, [], _∷_, _++_}
 use mathlib.Core.Option.{Option, none, some}
 use lib.Dec.{eqb}
 use lib.ListN.{length, take, drop}
-use Rattle.images.specs.Images.{liveImage, orBlank, overlaid}
+use Rattle.pages.specs.declared.PageOffset.{PageOffset}
+use Rattle.pages.specs.Offsets.{imageSize}
+use Rattle.images.specs.Images.{liveImage, orBlank, inPage, laidIn}
 use Rattle.reads.specs.Reads.{outputAfter}
 use Rattle.requests.specs.Numbers.{requestNumber, pagesNumber}
 use Rattle.plans.specs.declared.Entry.{Entry}
@@ -19,7 +21,7 @@ use Rattle.model.specs.Board.{Board, partRead, turn}
 
 -- a request with its data
 pub data Asked : Type 0 where
-  save : ℕ → List ℕ → Asked
+  save : PageOffset → List ℕ → Asked
   format : Asked
 
 abbrev pub dataOf : Asked → List ℕ
@@ -30,8 +32,8 @@ dataOf format = []
 pub data Told : Type 0 where
   begin : Asked → List ℕ → List ℕ → Told
   step : List ℕ → Told
-  read : ℕ → ℕ → Told
-  readInto : ℕ → List ℕ → Told
+  read : PageOffset → ℕ → Told
+  readInto : PageOffset → List ℕ → Told
   cut : Told
 
 abbrev pub told : Board → Call → Told
@@ -70,7 +72,7 @@ opened l r = record { page = length l; image = liveImage l r; job = none }
 
 -- "its list of steps for these pages"
 abbrev pub listFor : Asked → List ℕ → List ℕ → List Entry
-listFor (save o d) l r = stepsOf (firstWalk Save l r (record { 0 = o }) (length d)) l r d
+listFor (save o d) l r = stepsOf (firstWalk Save l r o (length d)) l r d
 listFor format l r = stepsOf (firstWalk Format l r (record { 0 = 4 }) 0) l r []
 
 -- the numbers of a beginning, to pages of length P
@@ -103,7 +105,7 @@ beginBook k number asked list =
 
 -- "a save lays its data into the image (all FF if none) and a format leaves none"
 abbrev pub effect : ℕ → Asked → Option (List ℕ) → Option (List ℕ)
-effect p (save o d) image = some (overlaid (orBlank (p - 4) image) (o - 4) d)
+effect p (save o d) image = some (laidIn (orBlank (imageSize p) image) o d)
 effect p format image = none
 
 -- "Otherwise one more is made. If that is the deciding one, .."
@@ -139,12 +141,12 @@ abbrev pub imageNumber : Option (List ℕ) → ℕ
 imageNumber none = 5
 imageNumber (some image) = 0
 
-abbrev pub readBook : Book → ℕ → ℕ → ℕ
+abbrev pub readBook : Book → PageOffset → ℕ → ℕ
 readBook k o n = requestNumber (k .page) (k .page) o n (imageNumber (k .image))
 
-abbrev pub askedBytes : Option (List ℕ) → ℕ → ℕ → List ℕ
+abbrev pub askedBytes : Option (List ℕ) → PageOffset → ℕ → List ℕ
 askedBytes none o n = []
-askedBytes (some image) o n = take n (drop (o - 4) image)
+askedBytes (some image) o n = take n (drop (o .0) (inPage image))
 
 -- each call in the book
 unfoldable pub entry : Book → Told → Entered
@@ -166,6 +168,10 @@ bookAfter k [] = k
 bookAfter k (c ∷ cs) = bookAfter (entry k c .book) cs
 
 -- ---- the requests that make their deciding store, in order, and what they give one after another
+-- a request with no steps: "its effect .. then counts as reached when it is begun"
+abbrev pub beginCommits : ℕ → Asked → List Entry → List Asked
+beginCommits number asked list = cond (eqb number 0 && eqb (length list) 0) (asked ∷ []) []
+
 abbrev pub stepCommits : Option Job → List ℕ → List Asked
 stepCommits none d = []
 stepCommits (some j) d =
@@ -176,7 +182,7 @@ stepCommits (some j) d =
     []
 
 abbrev pub commits : Book → Told → List Asked
-commits k (begin asked l r) = []
+commits k (begin asked l r) = beginCommits (beginNumber (k .page) asked) asked (listFor asked l r)
 commits k (step d) = stepCommits (k .job) d
 commits k (read o n) = []
 commits k (readInto o out) = []

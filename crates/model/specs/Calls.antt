@@ -3,14 +3,15 @@
 use Prim.Native.Nat.{ℕ}
 use mathlib.Core.List.{List, [], _∷_}
 use Rattle.flash.specs.Flash.{Bytes}
+use Rattle.pages.specs.declared.PageOffset.{PageOffset}
 
 -- the five calls, and a cut of the power; a read comes "in two ways"
 pub data Call : Type 0 where
-  save : ℕ → List ℕ → Call
+  save : PageOffset → List ℕ → Call
   format : Call
   step : List ℕ → Call
-  read : ℕ → ℕ → Call
-  readInto : ℕ → List ℕ → Call
+  read : PageOffset → ℕ → Call
+  readInto : PageOffset → List ℕ → Call
   cut : Call
 
 -- "The answers compared are the number, or that a walk was begun, a step made or the walk ended, or

@@ -1,21 +1,26 @@
--- Laws of offsets and of the look-up in a list of rows.
--- In order: the look-up, row by row; offsets.
--- Not here: what holds of document 01's own table (Table.antt). Assumes nothing.
-use Prim.Native.Nat.{ℕ, _+_, _*_, _-_, _<_, _≤_}
-use mathlib.Core.Path.{_≡_, refl, sym, _∙_}
+-- Laws of the look-up in a list of rows, of answers and of offsets.
+-- In order: the look-up, row by row; states and what an answer says; offsets.
+-- Not here: what holds of document 01's own table (Table.antt, Life.antt). Assumes nothing.
+use Prim.Native.Nat.{ℕ, _+_, _*_, _<_, _≤_, min}
+use mathlib.Core.Path.{_≡_, refl, sym, ap, _∙_}
 use mathlib.Core.Bool.{Bool, true, false, cond, _&&_}
-use mathlib.Core.List.{List, _∷_}
+use mathlib.Core.List.{List, [], _∷_}
+use mathlib.Core.Option.{Option, none, some}
 use native.Mathlib.Omega.{arith}
-use lib.Dec.{eqb, ltb}
-use borrow.Author.Tests.{eq-eqb, ne-eqb, lt-ltb, le-ltb, eqb-true, eqb-false, ltb-true, ltb-false}
-use Rattle.pages.specs.declared.Live.the-variants.{On}
+use lib.Dec.{eqb}
+use lib.ListN.{getD}
+use borrow.Author.Tests.{eq-eqb, ne-eqb, eqb-true, eqb-false}
+use Rattle.pages.specs.declared.Side.{Side}
+use Rattle.pages.specs.declared.State.{State}
+use Rattle.pages.specs.declared.State.the-variants.{S0, S1, S2, S3, S5, S6, S7, S8, S9, S10}
+use Rattle.pages.specs.declared.Live.{Live}
+use Rattle.pages.specs.declared.Live.the-variants.{Nowhere, On}
 use Rattle.pages.specs.declared.Status.{Status}
 use Rattle.pages.specs.declared.Row.{Row}
 use Rattle.pages.specs.declared.PageOffset.{PageOffset}
 use Rattle.pages.specs.declared.ImageOffset.{ImageOffset}
-use Rattle.pages.specs.declared.InImage.the-variants.{Management, At}
-use Rattle.pages.specs.Pages.{hits, look}
-use Rattle.pages.specs.Offsets.{toImage}
+use Rattle.pages.specs.Pages.{hits, look, lineOf, sideIn, Standing, standing}
+use Rattle.pages.specs.Offsets.{toPage}
 
 -- a row that doesn't hold the words is passed over, and one that holds them is the answer
 pub passed : (x : Row) (xs : List Row) (l r : ℕ) (t : Bool) → t ≡ hits x l r → t ≡ false
@@ -46,29 +51,50 @@ both-words a b l r h k = go (eqb a l) (eqb b r) refl refl
         let p = eqb-false a l e in
         ne-eqb (a + b * 4294967296) (l + r * 4294967296) (λ z. p (omega (arith, h, k, z)))
 
--- an offset below 4 lies in the management bytes; any other has an image offset, 4 less
-pub in-management : (o : PageOffset) → o .0 < 4 → toImage o ≡ Management
-unfolding toImage
-in-management o h = simp (lt-ltb _ _ h)
+-- ---- a state is known by its line number, and a status by what it says
+abbrev stateAt : ℕ → State
+stateAt n = getD (S0 ∷ S1 ∷ S2 ∷ S3 ∷ S0 ∷ S5 ∷ S6 ∷ S7 ∷ S8 ∷ S9 ∷ S10 ∷ []) n S0
 
-pub in-image : (o : PageOffset) → 4 ≤ o .0 → toImage o ≡ At (record { 0 = o .0 - 4 })
-unfolding toImage
-in-image o h = simp (le-ltb _ _ h)
+at-line : (s : State) → stateAt (lineOf s) ≡ s
+at-line S0 = refl
+at-line S1 = refl
+at-line S2 = refl
+at-line S3 = refl
+at-line S5 = refl
+at-line S6 = refl
+at-line S7 = refl
+at-line S8 = refl
+at-line S9 = refl
+at-line S10 = refl
 
--- and back, from where an offset lies to its bound
-pub management-below : (o : PageOffset) → toImage o ≡ Management → o .0 < 4
-unfolding toImage
-management-below o = go (ltb (o .0) 4) refl
-  where
-    go : (t : Bool) → ltb (o .0) 4 ≡ t → cond t Management (At (record { 0 = o .0 - 4 })) ≡ Management → o .0 < 4
-    go true q e = ltb-true (o .0) 4 q
-    go false q e = let z : _≡_ {A = ℕ} 0 1 = cc in absurd (omega arith)
+pub line-same : (s t : State) → lineOf s ≡ lineOf t → s ≡ t
+line-same s t e = sym (at-line s) ∙ ap stateAt e ∙ at-line t
 
-pub image-at : (o : PageOffset) (i : ImageOffset) → toImage o ≡ At i → (4 ≤ o .0) × (i ≡ (record { 0 = o .0 - 4 }))
-unfolding toImage
-image-at o i = go (ltb (o .0) 4) refl
-  where
-    go : (t : Bool) → ltb (o .0) 4 ≡ t → cond t Management (At (record { 0 = o .0 - 4 })) ≡ At i
-        → (4 ≤ o .0) × (i ≡ (record { 0 = o .0 - 4 }))
-    go true q e = let z : _≡_ {A = ℕ} 0 1 = cc in absurd (omega arith)
-    go false q e = (ltb-false (o .0) 4 q, cc)
+abbrev liveOn : Option Side → Live
+liveOn none = Nowhere
+liveOn (some s) = On s
+
+at-side : (v : Live) → liveOn (sideIn v) ≡ v
+at-side Nowhere = refl
+at-side (On s) = refl
+
+pub live-same : (v w : Live) → sideIn v ≡ sideIn w → v ≡ w
+live-same v w e = sym (at-side v) ∙ ap liveOn e ∙ at-side w
+
+pub standing-same : (a b : Status) → standing a ≡ standing b → a ≡ b
+standing-same a b e =
+    let states : a .state ≡ b .state = line-same (a .state) (b .state) (ap (λ (x : Standing). x .line) e) in
+    let lives : a .live ≡ b .live = live-same (a .live) (b .live) (ap (λ (x : Standing). x .live) e) in
+    λ i. record { state = states i; live = lives i }
+
+-- ---- offsets: 4 apart, as far as 32 bits go
+pub page-offset : (i : ImageOffset) → i .0 ≤ 4294967291 → toPage i .0 ≡ 4 + i .0
+unfolding toPage
+page-offset i h = omega arith
+
+pub within-bits : (i : ImageOffset) → i .0 ≤ 4294967291 → _≡_ {A = PageOffset} (record { 0 = 4 + i .0 }) (toPage i)
+within-bits i h = ap (λ (n : ℕ). record { 0 = n }) (sym (page-offset i h))
+
+pub past-bits : (i : ImageOffset) → 4294967291 < i .0 → _≡_ {A = PageOffset} (record { 0 = 4294967295 }) (toPage i)
+unfolding toPage
+past-bits i h = let e : 4294967295 ≡ min (4 + i .0) 4294967295 = omega arith in ap (λ (n : ℕ). record { 0 = n }) e

@@ -1,10 +1,12 @@
 -- Management words, and which page is live (document 01, "Pages, cells" and "Which page is live").
 -- In order: the word of a page; a choice by side; the table of lines; the look-up; each state's
--- line number, live side and row.
--- Not here: offsets (Offsets.antt). Laws: proofs/Laws.antt. Assumes nothing.
+-- line number, live side and row; what an answer says.
+-- Not here: the image and offsets (Offsets.antt). Laws: proofs/Laws.antt, and of the table
+-- proofs/Table.antt and proofs/Life.antt. Assumes nothing.
 use Prim.Native.Nat.{ℕ, _+_, _*_}
 use mathlib.Core.Bool.{Bool, cond, _&&_}
 use mathlib.Core.List.{List, [], _∷_}
+use mathlib.Core.Option.{Option, none, some}
 use lib.Dec.{eqb}
 use lib.ListN.{getD}
 use Rattle.pages.specs.declared.Side.{Side}
@@ -102,3 +104,17 @@ rowOf S7 = getD table 5 (row 0 0 S0 Left)
 rowOf S8 = getD table 6 (row 0 0 S0 Left)
 rowOf S9 = getD table 7 (row 0 0 S0 Left)
 rowOf S10 = getD table 8 (row 0 0 S0 Left)
+
+-- ---- what an answer says
+-- the live side, if there is one
+abbrev pub sideIn : Live → Option Side
+sideIn Nowhere = none
+sideIn (On s) = some s
+
+-- the line number and the live side
+pub record Standing : Type 0 where
+  pub line : ℕ
+  pub live : Option Side
+
+abbrev pub standing : Status → Standing
+standing s = record { line = lineOf (s .state); live = sideIn (s .live) }

@@ -7,8 +7,19 @@ ghost use mathlib.Core.Path.{_≡_};
 ghost use Prim.Native.Nat.{_+_, _*_};
 ghost use lib.ListN.{getD};
 ghost use Rattle.pages.specs.declared.Live.the-variants.{On};
-ghost use Rattle.pages.specs.Pages.{wordOf, wordFrom, hits, look, table, statusOf, lineOf};
-ghost use Rattle.pages.specs.Offsets.{toImage};
+ghost use Rattle.pages.specs.Pages.{
+  wordOf,
+  wordFrom,
+  hits,
+  look,
+  table,
+  statusOf,
+  lineOf,
+  liveOf,
+  sideIn,
+  standing,
+};
+ghost use Rattle.pages.specs.Offsets.{toPage};
 
 // How many bytes of a page are management.
 pub const MANAGEMENT_SIZE: u32 = 4;
@@ -54,6 +65,24 @@ impl State {
             State::S8 => 8,
             State::S9 => 9,
             State::S10 => 10,
+        }
+    }
+
+    // The live side at this line, if there is one.
+    pub fn live(self) -> Live
+        ensures { λ r. ⌜ sideIn r ≡ sideIn (liveOf self) ⌝ }
+    {
+        match self {
+            State::S0 => Live::Nowhere,
+            State::S1 => Live::On(Side::Left),
+            State::S2 => Live::On(Side::Left),
+            State::S3 => Live::On(Side::Left),
+            State::S5 => Live::On(Side::Right),
+            State::S6 => Live::On(Side::Right),
+            State::S7 => Live::On(Side::Right),
+            State::S8 => Live::On(Side::Right),
+            State::S9 => Live::On(Side::Left),
+            State::S10 => Live::On(Side::Left),
         }
     }
 }
@@ -196,7 +225,7 @@ pub fn word(page: &[u8]) -> u32
 
 // The state of two pages, and which of them is live.
 pub fn status_of(left: &[u8], right: &[u8]) -> Status
-    ensures { λ r. ⌜ r ≡ statusOf (now (left .entry)) (now (right .entry)) ⌝ }
+    ensures { λ r. ⌜ standing r ≡ standing (statusOf (now (left .entry)) (now (right .entry))) ⌝ }
 {
     look_up(word(left), word(right))
 }
@@ -207,22 +236,20 @@ pub struct PageOffset(pub u32);
 // An offset from the first byte of the image.
 pub struct ImageOffset(pub u32);
 
-// Where a page offset lies: in the management bytes, or at or after the image's first byte.
-pub enum InImage {
-    Management,
-    At(ImageOffset),
-}
+// The last offset of 32 bits.
+const LAST_OFFSET: u32 = 4294967295;
 
-impl PageOffset {
-    // The one place that turns a page offset into an image offset.
-    pub fn to_image(self) -> InImage
-        ensures { λ r. ⌜ r ≡ toImage self ⌝ }
+impl ImageOffset {
+    // The page offset of the same byte: the one place where 4 is added or taken. Past 32 bits it
+    // stays at the last offset, where no page has a byte.
+    pub fn to_page(self) -> PageOffset
+        ensures { λ r. ⌜ r ≡ toPage self ⌝ }
     {
-        let offset = self.0;
-        if offset < MANAGEMENT_SIZE {
-            return InImage::Management;
+        let inside = self.0;
+        if LAST_OFFSET - MANAGEMENT_SIZE < inside {
+            return PageOffset(LAST_OFFSET);
         }
-        let inside = offset - MANAGEMENT_SIZE;
-        InImage::At(ImageOffset(inside))
+        let place = MANAGEMENT_SIZE + inside;
+        PageOffset(place)
     }
 }

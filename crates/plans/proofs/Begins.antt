@@ -17,7 +17,7 @@ use Rattle.pages.specs.declared.State.{State}
 use Rattle.pages.specs.declared.State.the-variants.{S0, S1, S2, S3, S5, S6, S7, S8, S9, S10}
 use Rattle.pages.specs.declared.Live.{Live}
 use Rattle.pages.specs.Pages.{onSide, lineOf, liveOf, rowOf, statusOf}
-use Rattle.pages.proofs.Table.{words-of, status-live}
+use Rattle.pages.proofs.Table.{status-live}
 use Rattle.steps.specs.declared.Step.the-variants.{Erase}
 use Rattle.images.specs.Images.{imageOn, liveImage}
 use Rattle.plans.specs.declared.Entry.{Entry}
@@ -32,7 +32,7 @@ use Rattle.plans.specs.Plans.{
   saving,
   formatting,
 }
-use Rattle.plans.proofs.Shapes.{blank, valid, dead, bytesOf, shaped, at-clean, at-used, shows-none, at-blank}
+use Rattle.plans.proofs.Shapes.{blank, valid, dead, bytesOf, from-row, at-clean, at-used, shows-none, at-blank}
 use Rattle.plans.proofs.Good.{
   Good,
   Image?,
@@ -50,7 +50,7 @@ use Rattle.plans.proofs.Good.{
   good-spoil,
 }
 
--- ---- pages at a line other than 0 are the bytes of its row before their images
+-- ---- pages and a new image that fits them
 pub record Sized (l r new : List ℕ) : Type 0 where
   pub bytesLeft : Bytes l
   pub bytesRight : Bytes r
@@ -59,37 +59,32 @@ pub record Sized (l r new : List ℕ) : Type 0 where
   pub right : length r ≡ 4 + length new
   pub even : length new % 2 ≡ 0
 
-from-row : (P : List ℕ → List ℕ → Type 0) (l r new : List ℕ) (st : State) → Sized l r new → statusOf l r .state ≡ st
-    → (lineOf st ≡ 0 → ⊥) → P (bytesOf (rowOf st .0) (drop 4 l)) (bytesOf (rowOf st .1) (drop 4 r)) → P l r
-from-row P l r new st z e h p =
-    let n : length l ≡ 4 + length new = z .left in
-    let m : length r ≡ 4 + length new = z .right in
-    let w = words-of l r st e h in
-    let a : l ≡ bytesOf (rowOf st .0) (drop 4 l) = shaped l (rowOf st .0) (z .bytesLeft) (omega arith) (w .0) in
-    let b : r ≡ bytesOf (rowOf st .1) (drop 4 r) = shaped r (rowOf st .1) (z .bytesRight) (omega arith) (w .1) in
-    subst (λ (k : List ℕ). P k r) (sym a) (subst (P (bytesOf (rowOf st .0) (drop 4 l))) (sym b) p)
-
 -- ---- a save
-abbrev savesList : State → List ℕ → List ℕ → List ℕ → List Entry
+-- its list, begun on these pages
+abbrev pub savesList : State → List ℕ → List ℕ → List ℕ → List Entry
 savesList st new l r = saving st (counts Save st && othersErased (liveOf st) l r) new
 
 abbrev Saves : State → List ℕ → List ℕ → List ℕ → Type 0
 Saves st new l r = Good (liveImage l r) (some new) (savesList st new l r) l r
 
 -- what is Good from an image is Good from the one shown
-shown : (now then : Image?) (xs : List Entry) (l r : List ℕ) → Good now then xs l r → Good (liveImage l r) then xs l r
-shown now then xs l r g = subst (λ (i : Image?). Good i then xs l r) (sym (good-shows now then xs l r g)) g
+shown : (current then : Image?) (xs : List Entry) (l r : List ℕ) → Good current then xs l r → Good
+    (liveImage l r) then xs l r
+shown current then xs l r g = subst (λ (i : Image?). Good i then xs l r) (sym (good-shows current then xs l r g)) g
 
 -- a save begun at a line other than 0, from what is Good of the bytes of its row
-begin-at : (st : State) (l r new now : List ℕ) → Sized l r new → statusOf l r .state ≡ st → (lineOf st ≡ 0 → ⊥)
-    → Good (some now) (some new)
+begin-at : (st : State) (l r new current : List ℕ) → Sized l r new → statusOf l r .state ≡ st → (lineOf st ≡ 0 → ⊥)
+    → Good (some current) (some new)
     (savesList st new (bytesOf (rowOf st .0) (drop 4 l)) (bytesOf (rowOf st .1) (drop 4 r)))
     (bytesOf (rowOf st .0) (drop 4 l)) (bytesOf (rowOf st .1) (drop 4 r))
     → Saves st new l r
-begin-at st l r new now z e h g =
+begin-at st l r new current z e h g =
     let x = bytesOf (rowOf st .0) (drop 4 l) in
     let y = bytesOf (rowOf st .1) (drop 4 r) in
-    from-row (Saves st new) l r new st z e h (shown (some now) (some new) (savesList st new x y) x y g)
+    let n : length l ≡ 4 + length new = z .left in
+    let m : length r ≡ 4 + length new = z .right in
+    from-row (Saves st new) l r st (z .bytesLeft) (z .bytesRight) (omega arith) (omega arith) e h
+    (shown (some current) (some new) (savesList st new x y) x y g)
 
 -- from a clean pair: the page that isn't live is erased unless it is already
 from-clean : (s : Side) (y x new : List ℕ) (t : Bool) → isErased (blank x) ≡ t → Bytes new → length new % 2 ≡ 0

@@ -2,20 +2,32 @@
 -- In order: bytes of lists; a cell of bytes; programming, erasing and laying in keep bytes and lengths.
 -- Assumes nothing.
 use Prim.Native.Nat.{ℕ, zero, suc, _+_, _%_, _/_, _<_, _≤_}
-use mathlib.Core.Path.{_≡_, refl}
+use mathlib.Core.Path.{_≡_, refl, ap}
 use mathlib.Core.Bool.{Bool, true, false, cond}
 use mathlib.Core.List.{List, [], _∷_, _++_}
 use native.Mathlib.Omega.{arith}
 use lib.Bits.{bitAnd, and-le-l}
-use lib.ListN.{length, getD, take, drop, set, replicate, length-replicate}
+use lib.ListN.{
+  length,
+  getD,
+  take,
+  drop,
+  set,
+  replicate,
+  length-replicate,
+  length-append,
+  take-append-drop,
+}
 use Rattle.flash.specs.Flash.{Bytes, Outcome, cellAt, fits, stored, programmed, erasure}
 use Rattle.flash.proofs.Laws.{length-stored}
 use Rattle.pages.specs.declared.Side.{Side}
 use Rattle.pages.specs.declared.Side.the-variants.{Left, Right}
+use Rattle.pages.specs.declared.PageOffset.{PageOffset}
+use Rattle.pages.specs.declared.ImageOffset.{ImageOffset}
 use Rattle.steps.specs.declared.Step.{Step}
 use Rattle.steps.specs.declared.Step.the-variants.{Mark, Image, Erase}
 use Rattle.steps.specs.Steps.{marked, imaged, blanked, onPage, tried}
-use Rattle.images.specs.Images.{overlaid}
+use Rattle.images.specs.Images.{overlaid, inPage, laidIn}
 
 -- ---- lists
 pub bytes-append : (l m : List ℕ) → Bytes l → Bytes m → Bytes (l ++ m)
@@ -53,6 +65,12 @@ bytes-overlaid image o d h k =
     bytes-append (take o image) (d ++ drop (o + length d) image) (bytes-take o image h)
     (bytes-append d (drop (o + length d) image) k (bytes-drop (o + length d) image h))
 
+pub bytes-laid : (image : List ℕ) (o : PageOffset) (d : List ℕ) → Bytes image → Bytes d → Bytes (laidIn image o d)
+unfolding laidIn
+bytes-laid image o d h k =
+    bytes-drop 4 (overlaid (inPage image) (o .0) d)
+    (bytes-overlaid (inPage image) (o .0) d (bytes-append (replicate 4 255) image (bytes-blank 4) h) k)
+
 bytes-stored : (l : List ℕ) (i v : ℕ) → v < 65536 → Bytes l → Bytes (stored l i v)
 unfolding stored
 bytes-stored l i v k h =
@@ -80,6 +98,18 @@ programmed-keeps l i v h = go (fits l i v)
         }
     go false = record { bytes = h; same = refl }
 
+-- an image cell: what lies before the image is as it was
+imaged-keeps : (l : List ℕ) (at : ImageOffset) (v : ℕ) → Bytes l → Kept l (imaged l at v .bytes)
+imaged-keeps l at v h =
+    let k = programmed-keeps (drop 4 l) (at .0) v (bytes-drop 4 l h) in
+    let o = programmed (drop 4 l) (at .0) v .bytes in
+    let same : length o ≡ length (drop 4 l) = k .same in
+    let both : length (take 4 l ++ o) ≡ length (take 4 l) + length o = length-append (take 4 l) o in
+    let whole : length (take 4 l ++ drop 4 l) ≡ length (take 4 l) + length (drop 4 l) =
+    length-append (take 4 l) (drop 4 l) in
+    let back : length (take 4 l ++ drop 4 l) ≡ length l = ap length (take-append-drop 4 l) in
+    record { bytes = bytes-append (take 4 l) o (bytes-take 4 l h) (k .bytes); same = omega arith }
+
 erasure-keeps : (l : List ℕ) → Kept l (erasure l)
 unfolding erasure
 erasure-keeps l = record { bytes = bytes-blank (length l); same = length-replicate (length l) 255 }
@@ -97,5 +127,5 @@ unfolding tried
 tried-keeps (Mark s o v) l r h k =
     on-side s (λ page. marked page o v) l r h k (λ page q. programmed-keeps page (o .0) v q)
 tried-keeps (Image s o v) l r h k =
-    on-side s (λ page. imaged page o v) l r h k (λ page q. programmed-keeps page (4 + o .0) v q)
+    on-side s (λ page. imaged page o v) l r h k (λ page q. imaged-keeps page o v q)
 tried-keeps (Erase s) l r h k = on-side s blanked l r h k (λ page q. erasure-keeps page)

@@ -1,7 +1,7 @@
 -- The table of counts: how many steps the list of a request has, each row, both kinds; and the bound.
 -- In order: the image cells; a save's and a format's list; the bound.
 -- Assumes nothing.
-use Prim.Native.Nat.{ℕ, _+_, _-_, _%_, _/_, _≤_}
+use Prim.Native.Nat.{ℕ, _+_, _-_, _/_, _≤_}
 use mathlib.Core.Path.{_≡_, refl, ap, _∙_}
 use mathlib.Core.Bool.{Bool, true, false, cond, _&&_}
 use mathlib.Core.List.{List, [], _∷_, _++_}
@@ -13,7 +13,9 @@ use Rattle.pages.specs.declared.State.{State}
 use Rattle.pages.specs.declared.State.the-variants.{S0, S1, S2, S3, S5, S6, S7, S8, S9, S10}
 use Rattle.pages.specs.declared.Live.{Live}
 use Rattle.pages.specs.declared.Live.the-variants.{Nowhere, On}
+use Rattle.pages.specs.declared.ImageOffset.{ImageOffset}
 use Rattle.pages.specs.Pages.{liveOf}
+use Rattle.pages.specs.Offsets.{imageSize}
 use Rattle.plans.specs.declared.Request.{Request}
 use Rattle.plans.specs.declared.Request.the-variants.{Save, Format}
 use Rattle.plans.specs.Plans.{
@@ -25,6 +27,7 @@ use Rattle.plans.specs.Plans.{
   clean,
   target,
   cells,
+  firstCell,
   marks,
   saving,
   formatting,
@@ -33,12 +36,13 @@ use Rattle.plans.specs.Plans.{
 use Rattle.plans.specs.Counts.{added, formatCount, stepCount}
 
 -- an entry for every two bytes
-pub cells-length : (st : State) (s : Side) (i : ℕ) (im : List ℕ) → length im % 2 ≡ 0
-    → length (cells st s i im) ≡ length im / 2
-cells-length st s i [] e = refl
-cells-length st s i (low ∷ []) e = let z : _≡_ {A = ℕ} 1 0 = e in absurd (omega arith)
-cells-length st s i (low ∷ high ∷ rest) e =
-    let n : length (cells st s (i + 2) rest) ≡ length rest / 2 = cells-length st s (i + 2) rest (omega arith) in
+pub cells-length : (st : State) (s : Side) (at : ImageOffset) (im : List ℕ)
+    → length (cells st s at im) ≡ length im / 2
+cells-length st s at [] = refl
+cells-length st s at (low ∷ []) = refl
+cells-length st s at (low ∷ high ∷ rest) =
+    let n : length (cells st s (record { 0 = at .0 + 2 }) rest) ≡ length rest / 2 =
+    cells-length st s (record { 0 = at .0 + 2 }) rest in
     omega arith
 
 -- the steps before the image cells: each row of the table, less the three after them
@@ -62,14 +66,14 @@ marks-length : (v : Live) → length (marks v) ≡ 3
 marks-length Nowhere = refl
 marks-length (On s) = refl
 
-save-length : (st : State) (erased : Bool) (new : List ℕ) → length new % 2 ≡ 0
+save-length : (st : State) (erased : Bool) (new : List ℕ)
     → length (saving st erased new) ≡ length new / 2 + added st erased
 unfolding saving
-save-length st erased new e =
+save-length st erased new =
     let v = liveOf st in
-    let c = cells (clean v) (target v) 0 new in
+    let c = cells (clean v) (target v) firstCell new in
     let a : length (ready st erased) + 3 ≡ added st erased = ready-length st erased in
-    let b : length c ≡ length new / 2 = cells-length (clean v) (target v) 0 new e in
+    let b : length c ≡ length new / 2 = cells-length (clean v) (target v) firstCell new in
     let m : length (marks v) ≡ 3 = marks-length v in
     let rest : length (c ++ marks v) ≡ length c + length (marks v) = length-append c (marks v) in
     length-append (ready st erased) (c ++ marks v) ∙ (omega arith)
@@ -83,10 +87,10 @@ format-length st erased = go (counts Format st && erased)
     go false = refl
 
 -- the table of counts is the length of the list
-pub plan-length : (request : Request) (st : State) (erased : Bool) (new : List ℕ) (p : ℕ) → length new % 2 ≡ 0
-    → length new ≡ p - 4 → length (plan request st erased new) ≡ stepCount request st erased p
-plan-length Save st erased new p e n = save-length st erased new e ∙ ap (λ (k : ℕ). k / 2 + added st erased) n
-plan-length Format st erased new p e n = format-length st erased
+pub plan-length : (request : Request) (st : State) (erased : Bool) (new : List ℕ) (p : ℕ) → length new ≡ imageSize p
+    → length (plan request st erased new) ≡ stepCount request st erased p
+plan-length Save st erased new p n = save-length st erased new ∙ ap (λ (k : ℕ). k / 2 + added st erased) n
+plan-length Format st erased new p n = format-length st erased
 
 -- ---- the bound
 added-most : (st : State) (erased : Bool) → added st erased ≤ 6

@@ -19,12 +19,13 @@ use Rattle.pages.specs.declared.State.the-variants.{S0, S1, S2, S3, S5, S6, S7,
 use Rattle.pages.specs.declared.Live.the-variants.{Nowhere, On}
 use Rattle.pages.specs.declared.Status.{Status}
 use Rattle.pages.specs.Pages.{onSide, lineOf, statusOf}
+use Rattle.pages.specs.declared.ImageOffset.{ImageOffset}
 use Rattle.steps.specs.declared.Step.the-variants.{Image, Erase}
 use Rattle.steps.specs.Steps.{Tried, imaged, marked, blanked, tried}
+use Rattle.steps.proofs.Laws.{imaged-at}
 use Rattle.images.specs.Images.{liveImage}
 use Rattle.plans.specs.declared.Entry.{Entry}
-use Rattle.plans.specs.Plans.{entry, committing, mark, other, cells, marks, erasesBoth}
-use Rattle.plans.specs.Plans.{meets}
+use Rattle.plans.specs.Plans.{entry, committing, mark, other, cells, firstCell, marks, erasesBoth, meets}
 use Rattle.plans.proofs.Shapes.{
   blank,
   fresh,
@@ -61,44 +62,45 @@ filler n = replicate n 0xFF
 
 -- the image that a read shows after a step: from the deciding store on the new one
 abbrev pub switch : Bool → Image? → Image? → Image?
-switch commits now then = cond commits then now
+switch commits current then = cond commits then current
 
 abbrev pub Good : Image? → Image? → List Entry → List ℕ → List ℕ → Type 0
-Good now then [] l r = liveImage l r ≡ now
-Good now then (x ∷ xs) l r =
-    (liveImage l r ≡ now)
+Good current then [] l r = liveImage l r ≡ current
+Good current then (x ∷ xs) l r =
+    (liveImage l r ≡ current)
     × (meets (x .state) (statusOf l r .state) ≡ true)
     × (tried (x .step) l r .number ≡ 0)
-    × Good (switch (x .commits) now then) then xs (tried (x .step) l r .left) (tried (x .step) l r .right)
+    × Good (switch (x .commits) current then) then xs (tried (x .step) l r .left) (tried (x .step) l r .right)
 
 -- what a read shows
-pub good-shows : (now then : Image?) (xs : List Entry) (l r : List ℕ) → Good now then xs l r → liveImage l r ≡ now
-good-shows now then [] l r g = g
-good-shows now then (x ∷ xs) l r g = g .0
+pub good-shows : (current then : Image?) (xs : List Entry) (l r : List ℕ) → Good current then xs l r
+    → liveImage l r ≡ current
+good-shows current then [] l r g = g
+good-shows current then (x ∷ xs) l r g = g .0
 
 -- a step, from the line and the live side, what it leaves, and what holds from there on
-pub good-step : (now then : Image?) (x : Entry) (xs : List Entry) (l r l′ r′ : List ℕ) → liveImage l r ≡ now
+pub good-step : (current then : Image?) (x : Entry) (xs : List Entry) (l r l′ r′ : List ℕ) → liveImage l r ≡ current
     → statusOf l r .state ≡ x .state → tried (x .step) l r ≡ made-on l′ r′
-    → Good (switch (x .commits) now then) then xs l′ r′ → Good now then (x ∷ xs) l r
-good-step now then x xs l r l′ r′ h s e g = (
+    → Good (switch (x .commits) current then) then xs l′ r′ → Good current then (x ∷ xs) l r
+good-step current then x xs l r l′ r′ h s e g = (
   h,
   eq-eqb (lineOf (x .state)) (lineOf (statusOf l r .state)) (ap lineOf (sym s)),
   ap (λ (t : Tried). t .number) e,
-  subst (λ (t : Tried). Good (switch (x .commits) now then) then xs (t .left) (t .right)) (sym e) g,
+  subst (λ (t : Tried). Good (switch (x .commits) current then) then xs (t .left) (t .right)) (sym e) g,
 )
 
 -- ---- a step on a side, or on the other, from the step on the page
-image-on : (s : Side) (x y z : List ℕ) (i v : ℕ) → imaged x (record { 0 = i }) v ≡ (record { number = 0; bytes = z })
-    → tried (Image s (record { 0 = i }) v) (onSide s x y) (onSide s y x) ≡ made-on (onSide s z y) (onSide s y z)
+image-on : (s : Side) (x y z : List ℕ) (at : ImageOffset) (v : ℕ) → imaged x at v ≡ (record { number = 0; bytes = z })
+    → tried (Image s at v) (onSide s x y) (onSide s y x) ≡ made-on (onSide s z y) (onSide s y z)
 unfolding tried
-image-on s x y z i v e = on-side s (λ page. imaged page (record { 0 = i }) v) x y z e
+image-on s x y z at v e = on-side s (λ page. imaged page at v) x y z e
 
-mark-on : (s : Side) (x y z : List ℕ) (i v : ℕ) → programmed x i v ≡ (record { number = 0; bytes = z })
+pub mark-on : (s : Side) (x y z : List ℕ) (i v : ℕ) → programmed x i v ≡ (record { number = 0; bytes = z })
     → tried (mark s i v) (onSide s x y) (onSide s y x) ≡ made-on (onSide s z y) (onSide s y z)
 unfolding tried
 mark-on s x y z i v e = on-side s (λ page. marked page (record { 0 = i }) v) x y z e
 
-mark-other : (s : Side) (y x z : List ℕ) (i v : ℕ) → programmed x i v ≡ (record { number = 0; bytes = z })
+pub mark-other : (s : Side) (y x z : List ℕ) (i v : ℕ) → programmed x i v ≡ (record { number = 0; bytes = z })
     → tried (mark (other s) i v) (onSide s y x) (onSide s x y) ≡ made-on (onSide s y z) (onSide s z y)
 unfolding tried
 mark-other s y x z i v e = on-other s (λ page. marked page (record { 0 = i }) v) y x z e
@@ -111,38 +113,42 @@ erase-other s y x z e = on-other s blanked y x z (λ i. record { number = 0; byt
 -- ---- the image cells, into a blank part of a page, two bytes at a time
 -- the pages while the page on a side is programmed: its word is blank, the other page is y
 abbrev pub Blank : Image? → State → Side → List ℕ → Type 0
-Blank now st s y =
+Blank current st s y =
     (x : List ℕ)
-    → (liveImage (onSide s (blank x) y) (onSide s y (blank x)) ≡ now)
+    → (liveImage (onSide s (blank x) y) (onSide s y (blank x)) ≡ current)
     × (statusOf (onSide s (blank x) y) (onSide s y (blank x)) .state ≡ st)
 
 abbrev On-pages : (List ℕ → List ℕ → Type 0) → Side → List ℕ → List ℕ → Type 0
 On-pages P s x y = P (onSide s x y) (onSide s y x)
 
-pub good-cells : (now then : Image?) (st : State) (s : Side) (y front rest : List ℕ) (i : ℕ) (xs : List Entry)
-    → Blank now st s y → Bytes rest → length rest % 2 ≡ 0 → length front ≡ i → i % 2 ≡ 0
-    → On-pages (Good now then xs) s (blank (front ++ rest)) y
-    → On-pages (Good now then (cells st s i rest ++ xs)) s (blank (front ++ filler (length rest))) y
-good-cells now then st s y front [] i xs h b even e n g = g
-good-cells now then st s y front (low ∷ []) i xs h b even e n g = let z : _≡_ {A = ℕ} 1 0 = even in absurd (omega arith)
-good-cells now then st s y front (low ∷ high ∷ rest) i xs h b even e n g =
+pub good-cells : (current then : Image?) (st : State) (s : Side) (y front rest : List ℕ) (at : ImageOffset)
+    (xs : List Entry)
+    → Blank current st s y → Bytes rest → length rest % 2 ≡ 0 → length front ≡ at .0 → at .0 % 2 ≡ 0
+    → On-pages (Good current then xs) s (blank (front ++ rest)) y
+    → On-pages (Good current then (cells st s at rest ++ xs)) s (blank (front ++ filler (length rest))) y
+good-cells current then st s y front [] at xs h b even e n g = g
+good-cells current then st s y front (low ∷ []) at xs h b even e n g = let z : _≡_ {A = ℕ} 1 0 = even in absurd
+    (omega arith)
+good-cells current then st s y front (low ∷ high ∷ rest) at xs h b even e n g =
+    let next : ImageOffset = record { 0 = at .0 + 2 } in
     let back = filler (length rest) in
     let front′ = front ++ low ∷ high ∷ [] in
     let join : (t : List ℕ) → front′ ++ t ≡ front ++ low ∷ high ∷ t = λ t. append-assoc front (low ∷ high ∷ []) t in
-    let size : length front′ ≡ i + 2 = length-append front (low ∷ high ∷ []) ∙ (omega arith) in
-    let taken : imaged (blank (front ++ 255 ∷ 255 ∷ back)) (record { 0 = i }) (cellNumber low high)
+    let size : length front′ ≡ at .0 + 2 = length-append front (low ∷ high ∷ []) ∙ (omega arith) in
+    let taken : imaged (blank (front ++ 255 ∷ 255 ∷ back)) at (cellNumber low high)
     ≡ (record { number = 0; bytes = blank (front ++ low ∷ high ∷ back) }) =
-    ap (λ (k : ℕ). programmed (blank (front ++ 255 ∷ 255 ∷ back)) (4 + k) (cellNumber low high)) (sym e)
+    imaged-at (blank (front ++ 255 ∷ 255 ∷ back)) at (cellNumber low high) (omega arith)
+    ∙ ap (λ (k : ℕ). programmed (blank (front ++ 255 ∷ 255 ∷ back)) (4 + k) (cellNumber low high)) (sym e)
     ∙ image-takes 255 255 255 255 front back low high (b .0) (b .1 .0) (omega arith) in
-    let later = good-cells now then st s y front′ rest (i + 2) xs h (b .1 .1) (omega arith) size (omega arith)
-    (subst (λ (t : List ℕ). On-pages (Good now then xs) s (blank t) y) (sym (join rest)) g) in
-    good-step now then (entry st (Image s (record { 0 = i }) (cellNumber low high))) (cells st s (i + 2) rest ++ xs)
+    let later = good-cells current then st s y front′ rest next xs h (b .1 .1) (omega arith) size (omega arith)
+    (subst (λ (t : List ℕ). On-pages (Good current then xs) s (blank t) y) (sym (join rest)) g) in
+    good-step current then (entry st (Image s at (cellNumber low high))) (cells st s next rest ++ xs)
     (onSide s (blank (front ++ 255 ∷ 255 ∷ back)) y) (onSide s y (blank (front ++ 255 ∷ 255 ∷ back)))
     (onSide s (blank (front ++ low ∷ high ∷ back)) y) (onSide s y (blank (front ++ low ∷ high ∷ back)))
     (h (front ++ 255 ∷ 255 ∷ back) .0) (h (front ++ 255 ∷ 255 ∷ back) .1)
-    (image-on s (blank (front ++ 255 ∷ 255 ∷ back)) y (blank (front ++ low ∷ high ∷ back)) i
+    (image-on s (blank (front ++ 255 ∷ 255 ∷ back)) y (blank (front ++ low ∷ high ∷ back)) at
     (cellNumber low high) taken)
-    (subst (λ (t : List ℕ). On-pages (Good now then (cells st s (i + 2) rest ++ xs)) s (blank t) y) (join back) later)
+    (subst (λ (t : List ℕ). On-pages (Good current then (cells st s next rest ++ xs)) s (blank t) y) (join back) later)
 
 -- ---- the marks of a save from a live page: the deciding store, then the old page Dead, then the new one Active
 abbrev pub finish : Side → List Entry → List Entry
@@ -191,7 +197,7 @@ good-marks s y new =
 
 -- ---- a save from a clean pair, and from a page that has to be erased
 abbrev pub onward : Side → List ℕ → List Entry
-onward s new = cells (onSide s S1 S8) (other s) 0 new ++ marks (On s)
+onward s new = cells (onSide s S1 S8) (other s) firstCell new ++ marks (On s)
 
 flip : (P : List ℕ → List ℕ → Type 0) (s : Side) (y x : List ℕ) → On-pages P (other s) x y → Pair P s y x
 flip P Left y x p = p
@@ -213,7 +219,7 @@ pub good-clean : (s : Side) (y new : List ℕ) → Bytes new → length new % 2 
     → Pair (Good (some y) (some new) (onward s new)) s (valid y) (blank (filler (length new)))
 good-clean s y new b even =
     flip (Good (some y) (some new) (onward s new)) s (valid y) (blank (filler (length new)))
-    (good-cells (some y) (some new) (onSide s S1 S8) (other s) (valid y) [] new 0 (marks (On s))
+    (good-cells (some y) (some new) (onSide s S1 S8) (other s) (valid y) [] new firstCell (marks (On s))
     (clean-blank s y) b even refl refl
     (flip-back (Good (some y) (some new) (marks (On s))) s (valid y) (blank new) (good-marks s y new)))
 
@@ -261,29 +267,30 @@ good-first-marks new x =
     (shows-side Left S3 0x00 0x00 0xFF 0xFF new (dead x) (at-used Left new x))))
 
 abbrev pub firstOnward : List ℕ → List Entry
-firstOnward new = cells S0 Left 0 new ++ marks Nowhere
+firstOnward new = cells S0 Left firstCell new ++ marks Nowhere
 
 pub good-first : (new x : List ℕ) → Bytes new → length new % 2 ≡ 0
     → Good none (some new) (firstOnward new) (blank (filler (length new))) (blank x)
 good-first new x b even =
-    good-cells none (some new) S0 Left (blank x) [] new 0 (marks Nowhere)
+    good-cells none (some new) S0 Left (blank x) [] new firstCell (marks Nowhere)
     (λ z. (shows-none S0 (blank z) (blank x) (at-blank z x), ap (λ (u : Status). u .state) (at-blank z x)))
     b even refl refl (good-first-marks new x)
 
 -- ---- spoiling: from it on no page is live
-pub good-spoil : (now then : Image?) (st : State) (commits : Bool) (xs : List Entry) (l r : List ℕ) (n : ℕ)
-    → liveImage l r ≡ now → statusOf l r .state ≡ st → switch commits now then ≡ none → Bytes r
+pub good-spoil : (current then : Image?) (st : State) (commits : Bool) (xs : List Entry) (l r : List ℕ) (n : ℕ)
+    → liveImage l r ≡ current → statusOf l r .state ≡ st → switch commits current then ≡ none → Bytes r
     → length l ≡ 4 + n → length r ≡ 4 + n → Good none then xs (blank (filler n)) (blank (filler n))
-    → Good now then ((record { state = st; step = mark Right 2 0x0000; commits = commits }) ∷ (erasesBoth ++ xs)) l r
-good-spoil now then st commits xs l [] n h k s b p q g = absurd (omega arith)
-good-spoil now then st commits xs l (a ∷ []) n h k s b p q g = absurd (omega arith)
-good-spoil now then st commits xs l (a ∷ c ∷ []) n h k s b p q g = absurd (omega arith)
-good-spoil now then st commits xs l (a ∷ c ∷ e ∷ []) n h k s b p q g = absurd (omega arith)
-good-spoil now then st commits xs l (a ∷ c ∷ e ∷ f ∷ x) n h k s b p q g =
+    → Good current then ((record { state = st; step = mark Right 2 0x0000; commits = commits }) ∷
+    (erasesBoth ++ xs)) l r
+good-spoil current then st commits xs l [] n h k s b p q g = absurd (omega arith)
+good-spoil current then st commits xs l (a ∷ []) n h k s b p q g = absurd (omega arith)
+good-spoil current then st commits xs l (a ∷ c ∷ []) n h k s b p q g = absurd (omega arith)
+good-spoil current then st commits xs l (a ∷ c ∷ e ∷ []) n h k s b p q g = absurd (omega arith)
+good-spoil current then st commits xs l (a ∷ c ∷ e ∷ f ∷ x) n h k s b p q g =
     let spoiled = a ∷ c ∷ 0 ∷ 0 ∷ x in
     let empty = blank (filler n) in
     let u : (z : List ℕ) → statusOf z spoiled ≡ at S0 Nowhere = λ z. at-spoiled z a c x (b .0) (b .1 .0) in
-    good-step now then (record { state = st; step = mark Right 2 0x0000; commits = commits }) (erasesBoth ++ xs)
+    good-step current then (record { state = st; step = mark Right 2 0x0000; commits = commits }) (erasesBoth ++ xs)
     l (a ∷ c ∷ e ∷ f ∷ x) l spoiled h k
     (mark-other Left l (a ∷ c ∷ e ∷ f ∷ x) spoiled 2 0x0000 (spoils a c e f x))
     (subst (λ (i : Image?). Good i then (erasesBoth ++ xs) l spoiled) (sym s)

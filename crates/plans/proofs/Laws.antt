@@ -1,8 +1,7 @@
 -- Laws of the list of steps: what stands at a place.
--- In order: states and line numbers; the steps before the image cells, a format's steps and the marks; the places of a
--- save's list.
+-- In order: the steps before the image cells, a format's steps and the marks; the places of a save's list.
 -- Not here: the length of the list (Counts.antt). Assumes nothing.
-use Prim.Native.Nat.{ℕ, zero, suc, _+_, _-_, _*_, _/_, _%_, _<_, _≤_}
+use Prim.Native.Nat.{ℕ, zero, suc, _+_, _-_, _*_, _/_, _<_, _≤_}
 use mathlib.Core.Path.{_≡_, refl, sym, ap, ap₂, subst, _∙_}
 use mathlib.Core.Bool.{Bool, true, false, cond, _&&_}
 use mathlib.Core.List.{List, [], _∷_, _++_}
@@ -17,7 +16,9 @@ use Rattle.pages.specs.declared.State.{State}
 use Rattle.pages.specs.declared.State.the-variants.{S0, S1, S2, S3, S5, S6, S7, S8, S9, S10}
 use Rattle.pages.specs.declared.Live.{Live}
 use Rattle.pages.specs.declared.Live.the-variants.{On}
+use Rattle.pages.specs.declared.ImageOffset.{ImageOffset}
 use Rattle.pages.specs.Pages.{lineOf, liveOf}
+use Rattle.pages.proofs.Laws.{line-same}
 use Rattle.steps.specs.declared.Step.{Step}
 use Rattle.steps.specs.declared.Step.the-variants.{Image, Erase}
 use Rattle.plans.specs.declared.Request.the-variants.{Save, Format}
@@ -33,6 +34,7 @@ use Rattle.plans.specs.Plans.{
   target,
   clean,
   cells,
+  firstCell,
   marks,
   saving,
   formatting,
@@ -40,25 +42,6 @@ use Rattle.plans.specs.Plans.{
 }
 use Rattle.plans.specs.Counts.{added, formatCount}
 use Rattle.plans.proofs.Counts.{ready-length, cells-length, bound}
-
--- ---- a state is known by its line number
-abbrev stateAt : ℕ → State
-stateAt n = getD (S0 ∷ S1 ∷ S2 ∷ S3 ∷ S0 ∷ S5 ∷ S6 ∷ S7 ∷ S8 ∷ S9 ∷ S10 ∷ []) n S0
-
-at-line : (s : State) → stateAt (lineOf s) ≡ s
-at-line S0 = refl
-at-line S1 = refl
-at-line S2 = refl
-at-line S3 = refl
-at-line S5 = refl
-at-line S6 = refl
-at-line S7 = refl
-at-line S8 = refl
-at-line S9 = refl
-at-line S10 = refl
-
-pub line-same : (s t : State) → lineOf s ≡ lineOf t → s ≡ t
-line-same s t e = sym (at-line s) ∙ ap stateAt e ∙ at-line t
 
 -- ---- the steps before the image cells, a format's steps and the marks
 pub on-side : (live : Live) (s t : Side) → live ≡ On s → s ≡ t → live ≡ On t
@@ -233,19 +216,19 @@ before-seam : (xs ys : List Entry) (k : ℕ) → k < length xs → getD (xs ++ y
 before-seam xs ys k h = List·getD-append xs ys nothing k h
 
 -- the k-th image cell is at twice k, and holds what the image holds there
-pub cells-at : (state : State) (s : Side) (i : ℕ) (image : List ℕ) (k : ℕ) → k * 2 + 1 < length image
-    → getD (cells state s i image) k nothing
-    ≡ entry state (Image s (record { 0 = i + k * 2 }) (cellAt image (k * 2)))
-cells-at state s i [] k h = absurd (omega arith)
-cells-at state s i (low ∷ []) k h = absurd (omega arith)
-cells-at state s i (low ∷ high ∷ rest) zero h =
-    let p : i ≡ i + 0 = omega arith in
+pub cells-at : (state : State) (s : Side) (at : ImageOffset) (image : List ℕ) (k : ℕ) → k * 2 + 1 < length image
+    → getD (cells state s at image) k nothing
+    ≡ entry state (Image s (record { 0 = at .0 + k * 2 }) (cellAt image (k * 2)))
+cells-at state s at [] k h = absurd (omega arith)
+cells-at state s at (low ∷ []) k h = absurd (omega arith)
+cells-at state s at (low ∷ high ∷ rest) zero h =
+    let p : at .0 ≡ at .0 + 0 = omega arith in
     ap (λ (j : ℕ). entry state (Image s (record { 0 = j }) (cellNumber low high))) p
-cells-at state s i (low ∷ high ∷ rest) (suc k) h =
-    let p : i + 2 + k * 2 ≡ i + suc k * 2 = omega arith in
+cells-at state s at (low ∷ high ∷ rest) (suc k) h =
+    let p : at .0 + 2 + k * 2 ≡ at .0 + suc k * 2 = omega arith in
     let q : suc (suc (k * 2)) ≡ suc k * 2 = omega arith in
     let q′ : suc (suc (k * 2 + 1)) ≡ suc k * 2 + 1 = omega arith in
-    cells-at state s (i + 2) rest k (omega arith)
+    cells-at state s (record { 0 = at .0 + 2 }) rest k (omega arith)
     ∙ ap₂ (λ (j v : ℕ). entry state (Image s (record { 0 = j }) v)) p
     (ap₂ cellNumber (ap (λ (n : ℕ). getD (low ∷ high ∷ rest) n 0) q)
     (ap (λ (n : ℕ). getD (low ∷ high ∷ rest) n 0) q′))
@@ -262,35 +245,35 @@ save-ready start erased new place h =
     let live = liveOf start in
     let k : place < length (ready start erased) = omega (arith, ready-count start erased) in
     ap (λ (xs : List Entry). getD xs place nothing) (sym (ready-some start erased place k))
-    ∙ sym (before-seam (ready start erased) (cells (clean live) (target live) 0 new ++ marks live) place k)
+    ∙ sym (before-seam (ready start erased) (cells (clean live) (target live) firstCell new ++ marks live) place k)
 
-pub save-cell : (start : State) (erased : Bool) (new : List ℕ) (place k : ℕ) → length new % 2 ≡ 0
+pub save-cell : (start : State) (erased : Bool) (new : List ℕ) (place k : ℕ)
     → added start erased - 3 ≤ place → k ≡ place - (added start erased - 3) → k < length new / 2
     → entry (clean (liveOf start)) (Image (target (liveOf start)) (record { 0 = k * 2 }) (cellAt new (k * 2)))
     ≡ getD (saving start erased new) place nothing
 unfolding saving
-save-cell start erased new place k v h e p =
+save-cell start erased new place k h e p =
     let live = liveOf start in
-    let list = cells (clean live) (target live) 0 new in
+    let list = cells (clean live) (target live) firstCell new in
     let z : 0 + k * 2 ≡ k * 2 = omega arith in
     sym (getD-later (ready start erased) (list ++ marks live) nothing place (added start erased - 3)
     (ready-count start erased) h
     ∙ ap (λ (n : ℕ). getD (list ++ marks live) n nothing) (sym e)
-    ∙ before-seam list (marks live) k (omega (arith, cells-length (clean live) (target live) 0 new v))
-    ∙ cells-at (clean live) (target live) 0 new k (omega arith)
+    ∙ before-seam list (marks live) k (omega (arith, cells-length (clean live) (target live) firstCell new))
+    ∙ cells-at (clean live) (target live) firstCell new k (omega arith)
     ∙ ap (λ (n : ℕ). entry (clean live) (Image (target live) (record { 0 = n }) (cellAt new (k * 2)))) z)
 
-pub save-mark : (start : State) (erased : Bool) (new : List ℕ) (place k : ℕ) → length new % 2 ≡ 0
+pub save-mark : (start : State) (erased : Bool) (new : List ℕ) (place k : ℕ)
     → added start erased - 3 ≤ place → k ≡ place - (added start erased - 3) → length new / 2 ≤ k
     → getD (marks (liveOf start)) (k - length new / 2) nothing ≡ getD (saving start erased new) place nothing
 unfolding saving
-save-mark start erased new place k v h e p =
+save-mark start erased new place k h e p =
     let live = liveOf start in
-    let list = cells (clean live) (target live) 0 new in
+    let list = cells (clean live) (target live) firstCell new in
     sym (getD-later (ready start erased) (list ++ marks live) nothing place (added start erased - 3)
     (ready-count start erased) h
     ∙ ap (λ (n : ℕ). getD (list ++ marks live) n nothing) (sym e)
-    ∙ getD-later list (marks live) nothing k (length new / 2) (cells-length (clean live) (target live) 0 new v) p)
+    ∙ getD-later list (marks live) nothing k (length new / 2) (cells-length (clean live) (target live) firstCell new) p)
 
 pub ready-inside : (start : State) (erased : Bool) (place : ℕ) → place < added start erased - 3
     → place < length (ready start false)

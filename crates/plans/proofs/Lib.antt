@@ -5,3 +5,5 @@ pub mod Bytes
 pub mod Shapes
 pub mod Good
 pub mod Begins
+pub mod Whole
+pub mod Finish

@@ -1,9 +1,9 @@
 -- Pages as four management bytes before an image: their lines, and the flash steps on them.
--- In order: the five words as bytes; from a word to its bytes; marks; an image cell; pages by side; lines and live
+-- In order: the five words as bytes; from a word and from a line to its bytes; marks; an image cell; pages by side; lines and live
 -- images of the pairs that a walk goes through; a spoiled RIGHT.
 -- Assumes nothing.
 use Prim.Native.Nat.{ℕ, suc, _+_, _%_, _/_, _<_, _≤_}
-use mathlib.Core.Path.{_≡_, refl, sym, ap, ap₂, _∙_}
+use mathlib.Core.Path.{_≡_, refl, sym, ap, ap₂, subst, _∙_}
 use mathlib.Core.Bool.{Bool, true, false, cond, _&&_}
 use mathlib.Core.List.{List, [], _∷_, _++_}
 use mathlib.Core.Option.{none, some}
@@ -24,8 +24,8 @@ use Rattle.pages.specs.declared.Live.{Live}
 use Rattle.pages.specs.declared.Live.the-variants.{Nowhere, On}
 use Rattle.pages.specs.declared.Status.{Status}
 use Rattle.pages.specs.declared.Row.{Row}
-use Rattle.pages.specs.Pages.{onSide, wordFrom, wordOf, table, look, statusOf}
-use Rattle.pages.proofs.Table.{All}
+use Rattle.pages.specs.Pages.{onSide, wordFrom, wordOf, table, look, lineOf, rowOf, statusOf}
+use Rattle.pages.proofs.Table.{All, words-of}
 use Rattle.steps.specs.Steps.{Tried, onPage}
 use Rattle.images.specs.Images.{imageOn, liveImage}
 use Rattle.plans.specs.Plans.{other}
@@ -69,6 +69,16 @@ by-word (a ∷ b ∷ c ∷ e ∷ im) h k = word-bytes a b c e im (h .0) (h .1 .0
 -- so a known word is known bytes
 pub shaped : (l : List ℕ) (w : ℕ) → Bytes l → 4 ≤ length l → wordOf l ≡ w → l ≡ bytesOf w (drop 4 l)
 shaped l w h k e = by-word l h k ∙ ap (λ (x : ℕ). bytesOf x (drop 4 l)) e
+
+-- pages of bytes at a line other than 0 are the bytes of its row before their images
+pub from-row : (P : List ℕ → List ℕ → Type 0) (l r : List ℕ) (st : State) → Bytes l → Bytes r → 4 ≤ length l
+    → 4 ≤ length r → statusOf l r .state ≡ st → (lineOf st ≡ 0 → ⊥)
+    → P (bytesOf (rowOf st .0) (drop 4 l)) (bytesOf (rowOf st .1) (drop 4 r)) → P l r
+from-row P l r st bl br nl nr e h p =
+    let w = words-of l r st e h in
+    let a : l ≡ bytesOf (rowOf st .0) (drop 4 l) = shaped l (rowOf st .0) bl nl (w .0) in
+    let b : r ≡ bytesOf (rowOf st .1) (drop 4 r) = shaped r (rowOf st .1) br nr (w .1) in
+    subst (λ (k : List ℕ). P k r) (sym a) (subst (P (bytesOf (rowOf st .0) (drop 4 l))) (sym b) p)
 
 -- ---- marks
 abbrev made-as : List ℕ → Outcome

@@ -1,17 +1,18 @@
 -- How many steps a walk has (document 01's table in "The walk of a save", and "The walk of a
 -- format"). That the list of steps has this length is a theorem (proofs/Counts.antt).
 -- Assumes nothing.
-use Prim.Native.Nat.{ℕ, _+_, _-_, _/_}
+use Prim.Native.Nat.{ℕ, _+_, _/_}
 use mathlib.Core.Bool.{Bool, cond, _&&_}
 use Rattle.pages.specs.declared.State.{State}
 use Rattle.pages.specs.declared.State.the-variants.{S0, S1, S2, S3, S5, S6, S7, S8, S9, S10}
+use Rattle.pages.specs.Offsets.{imageSize}
 use Rattle.plans.specs.declared.Request.{Request}
 use Rattle.plans.specs.declared.Request.the-variants.{Save, Format}
 use Rattle.plans.specs.Plans.{isLine}
 
 -- "C below is (P - 4) / 2"
 abbrev pub cellCount : ℕ → ℕ
-cellCount p = (p - 4) / 2
+cellCount p = imageSize p / 2
 
 -- what each row of the table adds to C
 abbrev pub added : State → Bool → ℕ

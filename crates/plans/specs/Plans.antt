@@ -18,6 +18,7 @@ use Rattle.pages.specs.declared.State.{State}
 use Rattle.pages.specs.declared.State.the-variants.{S0, S1, S2, S3, S5, S6, S7, S8, S9, S10}
 use Rattle.pages.specs.declared.Live.{Live}
 use Rattle.pages.specs.declared.Live.the-variants.{Nowhere, On}
+use Rattle.pages.specs.declared.ImageOffset.{ImageOffset}
 use Rattle.pages.specs.Pages.{onSide, lineOf, liveOf}
 use Rattle.steps.specs.declared.Step.{Step}
 use Rattle.steps.specs.declared.Step.the-variants.{Mark, Image, Erase}
@@ -103,11 +104,11 @@ clean (On s) = onSide s S1 S8
 
 -- "3. Program the C image cells of that page": "each image cell is programmed once, in ascending
 -- order, FFFF included"; from an image offset on
-abbrev pub cells : State → Side → ℕ → List ℕ → List Entry
-cells state s i [] = []
-cells state s i (low ∷ []) = []
-cells state s i (low ∷ high ∷ rest) =
-    entry state (Image s (record { 0 = i }) (cellNumber low high)) ∷ cells state s (i + 2) rest
+abbrev pub cells : State → Side → ImageOffset → List ℕ → List Entry
+cells state s at [] = []
+cells state s at (low ∷ []) = []
+cells state s at (low ∷ high ∷ rest) =
+    entry state (Image s at (cellNumber low high)) ∷ cells state s (record { 0 = at .0 + 2 }) rest
 
 -- "4. Program its cell 0 to FF00. This is the deciding store. 5. Program cell 2 of the formerly
 -- live page to FF00, then cell 0 of the new page to 0000." At line 0: "LEFT cell 0 to 0000 (the
@@ -124,11 +125,20 @@ marks (On s) =
     ∷ entry (onSide s S6 S10) (mark (other s) 0 0x0000)
     ∷ []
 
+-- the image's first cell
+abbrev pub firstCell : ImageOffset
+firstCell = record { 0 = 0 }
+
+-- "The pair is now line 7 or line 3": the line after a save, by the side that was live before it
+abbrev pub settled : Live → State
+settled Nowhere = S3
+settled (On s) = onSide s S7 S3
+
 -- "The walk of a save", begun at a line, with the new image
 unfoldable pub saving : State → Bool → List ℕ → List Entry
 saving start erased new =
     ready start erased
-    ++ (cells (clean (liveOf start)) (target (liveOf start)) 0 new ++ marks (liveOf start))
+    ++ (cells (clean (liveOf start)) (target (liveOf start)) firstCell new ++ marks (liveOf start))
 
 -- "The walk of a format. No steps if both pages are erased. Otherwise three: RIGHT cell 2 to 0000
 -- (the deciding store), blank LEFT, blank RIGHT."

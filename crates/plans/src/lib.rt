@@ -4,7 +4,6 @@
 // What the list is, and why it is safe to cut between any two steps, is in specs/Plans.antt and
 // proofs/Begins.antt. What stands at a place of it is looked up in the crate entries.
 use pages::ImageOffset;
-use pages::Live;
 use pages::Side;
 use pages::State;
 use steps::Step;
@@ -25,17 +24,16 @@ pub struct Entry {
 }
 
 // What stands at a place of the list: an entry; an image cell, by the line before it, the side that
-// it is programmed on, the live side that the new image is made from and its image offset; or
-// nothing, at the end and beyond.
+// it is programmed on and its image offset; or nothing, at the end and beyond.
 pub enum Spot {
     Fixed(Entry),
-    Cell(State, Side, Live, ImageOffset),
+    Cell(State, Side, ImageOffset),
     Beyond,
 }
 
-// Whether an image cell stands at a place of the list, and which.
+// Whether an image cell stands at a place of the list, and which: its side and its image offset.
 pub enum InCells {
-    At(ImageOffset),
+    At(Side, ImageOffset),
     Outside,
 }
 

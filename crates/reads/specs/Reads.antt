@@ -13,6 +13,7 @@ use Rattle.flash.specs.Flash.{Outcome, erasure}
 use Rattle.pages.specs.declared.Side.{Side}
 use Rattle.pages.specs.declared.Live.{Live}
 use Rattle.pages.specs.declared.Live.the-variants.{Nowhere, On}
+use Rattle.pages.specs.declared.PageOffset.{PageOffset}
 use Rattle.pages.specs.Pages.{onSide, statusOf}
 use Rattle.requests.specs.declared.Refusal.{Refusal}
 use Rattle.requests.specs.Numbers.{numberOf, requestNumber}
@@ -33,7 +34,7 @@ liveNumber Nowhere = 5
 liveNumber (On s) = 0
 
 -- the number of a read: 1 to 4, then 5
-unfoldable pub readNumber : List ℕ → List ℕ → ℕ → ℕ → ℕ
+unfoldable pub readNumber : List ℕ → List ℕ → PageOffset → ℕ → ℕ
 readNumber l r o n = requestNumber (length l) (length r) o n (liveNumber (statusOf l r .live))
 
 -- the live page, or nothing
@@ -43,10 +44,10 @@ livePage (On s) l r = onSide s l r
 
 -- the first read: "the asked part of the live page itself", counted from byte 0 of the page; "empty
 -- on every refusal"
-unfoldable pub readPart : List ℕ → List ℕ → ℕ → ℕ → List ℕ
+unfoldable pub readPart : List ℕ → List ℕ → PageOffset → ℕ → List ℕ
 readPart l r o n =
     cond (eqb (readNumber l r o n) 0)
-    (take n (drop o (livePage (statusOf l r .live) l r)))
+    (take n (drop (o .0) (livePage (statusOf l r .live) l r)))
     []
 
 -- what a lent output holds after a number: the asked bytes where none is given, FF after 5, else
@@ -55,7 +56,7 @@ unfoldable pub outputAfter : ℕ → List ℕ → List ℕ → List ℕ
 outputAfter number asked out = cond (eqb number 0) asked (cond (eqb number 5) (erasure out) out)
 
 -- the second read, its number and the output afterwards: "the length asked for is the output's own"
-unfoldable pub filled : List ℕ → List ℕ → ℕ → List ℕ → Outcome
+unfoldable pub filled : List ℕ → List ℕ → PageOffset → List ℕ → Outcome
 filled l r o out =
     record {
       number = readNumber l r o (length out);
@@ -81,7 +82,7 @@ foundIn (F.the-variants.Refused why) = refusedBy why
 foundIn F.the-variants.NoLive = noneLive
 foundIn (F.the-variants.On s) = liveOn s
 
-unfoldable pub located : List ℕ → List ℕ → ℕ → ℕ → Located
+unfoldable pub located : List ℕ → List ℕ → PageOffset → ℕ → Located
 located l r o n =
     record {
       number = readNumber l r o n;

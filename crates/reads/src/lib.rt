@@ -54,7 +54,7 @@ enum Found {
 fn locate(left: &[u8], right: &[u8], offset: PageOffset, len: usize) -> Found
     ensures { λ r.
         ⌜ _≡_ {A = Located} (foundIn r)
-        (located (now (left .entry)) (now (right .entry)) (offset .0) len) ⌝ }
+        (located (now (left .entry)) (now (right .entry)) offset len) ⌝ }
 {
     match requests::check_request(left.len(), right.len(), offset, len) {
         Check::Refused(why) => Found::Refused(why),
@@ -87,7 +87,7 @@ fn part<'a>(left: &'a [u8], right: &'a [u8], side: Side, offset: PageOffset, len
 // How a read of a part is answered; no byte is copied.
 pub fn check_read(left: &[u8], right: &[u8], offset: PageOffset, len: u32) -> Reading
     ensures { λ r.
-        ⌜ numberIn r ≡ readNumber (now (left .entry)) (now (right .entry)) (offset .0) len ⌝ }
+        ⌜ numberIn r ≡ readNumber (now (left .entry)) (now (right .entry)) offset len ⌝ }
 {
     match locate(left, right, offset, len as usize) {
         Found::Refused(why) => Reading::Refused(why),
@@ -99,7 +99,7 @@ pub fn check_read(left: &[u8], right: &[u8], offset: PageOffset, len: u32) -> Re
 // The asked part of the live page itself, with no copy; empty on every refusal.
 pub fn read<'a>(left: &'a [u8], right: &'a [u8], offset: PageOffset, len: u32) -> &'a [u8]
     ensures { λ r.
-        ⌜ now r ≡ readPart (now (left .entry)) (now (right .entry)) (offset .0) len ⌝ }
+        ⌜ now r ≡ readPart (now (left .entry)) (now (right .entry)) offset len ⌝ }
 {
     let size = len as usize;
     match locate(left, right, offset, size) {
@@ -114,7 +114,7 @@ pub fn read<'a>(left: &'a [u8], right: &'a [u8], offset: PageOffset, len: u32) -
 pub fn read_into<'a>(left: &'a [u8], right: &'a [u8], offset: PageOffset, out: &mut [u8]) -> Reading
     ensures { λ r.
         ⌜ _≡_ {A = Outcome} (record { number = numberIn r; bytes = now (out .exit) })
-        (filled (now (left .entry)) (now (right .entry)) (offset .0) (now (out .entry))) ⌝ }
+        (filled (now (left .entry)) (now (right .entry)) offset (now (out .entry))) ⌝ }
 {
     let size = out.len();
     match locate(left, right, offset, size) {

@@ -6,22 +6,19 @@ use loads::Name;
 ghost use Prim.Native.Nat.{_≤_};
 
 // ---- the run
-// Whether a script has a save where cuts are asked for; if not, prints the line that says so.
-fn may_run(name: &[u8], text: &[u8], left: &[u8], right: &[u8], cuts: bool) -> bool {
-    if !cuts {
-        return true;
-    }
-    if cuts::has_save(text, left, right) {
-        return true;
-    }
-    listings::fail(name, b": no save in it is begun\n");
-    false
-}
-
-fn run(text: &[u8], left: &mut [u8], right: &mut [u8], cuts: bool) {
+fn run<'a>(
+    left_name: &[u8],
+    right_name: &[u8],
+    script_name: &[u8],
+    text: &[u8],
+    left: &'a [u8],
+    right: &'a [u8],
+    cuts: bool,
+) {
     if cuts {
-        cuts::run(text, left, right);
+        cuts::run(left_name, right_name, script_name, text, left, right);
     } else {
+        views::heading(left_name, right_name, left.len());
         timelines::run(text, left, right);
     }
 }
@@ -43,47 +40,25 @@ fn load_script(name: &[u8], text: &mut [u8]) -> Input {
 }
 
 // Loads the script and runs it on the pages.
-fn run_pages(
+fn run_pages<'a>(
     left_name: &[u8],
     right_name: &[u8],
     script_name: &[u8],
-    left: &mut [u8],
-    right: &mut [u8],
+    left: &'a [u8],
+    right: &'a [u8],
     cuts: bool,
 ) {
     let mut space = [0u8; 65536];
     let Input::Bytes(size) = load_script(script_name, &mut space) else {
         return;
     };
-    let text = loads::first(&space, size);
-    if may_run(script_name, text, left, right, cuts) {
-        views::heading(left_name, right_name, left.len());
-        run(text, left, right, cuts);
-    }
-}
-
-// Runs the script on the first P bytes of two buffers.
-fn trim_pages(
-    left_name: &[u8],
-    right_name: &[u8],
-    script_name: &[u8],
-    left: &mut [u8],
-    right: &mut [u8],
-    page: usize,
-    cuts: bool,
-) {
-    if left.len() < page {
-        return;
-    }
-    if right.len() < page {
-        return;
-    }
-    run_pages(
+    run(
         left_name,
         right_name,
         script_name,
-        &mut left[0..page],
-        &mut right[0..page],
+        loads::first(&space, size),
+        left,
+        right,
         cuts,
     );
 }
@@ -95,13 +70,12 @@ fn run_files(left_name: &[u8], right_name: &[u8], script_name: &[u8], cuts: bool
     let Input::Bytes(page) = loads::load_pages(left_name, &mut left, right_name, &mut right) else {
         return;
     };
-    trim_pages(
+    run_pages(
         left_name,
         right_name,
         script_name,
-        &mut left,
-        &mut right,
-        page,
+        loads::first(&left, page),
+        loads::first(&right, page),
         cuts,
     );
 }

@@ -10,7 +10,8 @@ use native.Mathlib.Omega.{arith}
 use lib.Dec.{ltb}
 use lib.ListN.{length, drop, length-drop}
 use borrow.Author.Tests.{ltb-false}
-use Rattle.model.specs.Board.{Board, answers, boardAfter}
+use Rattle.model.specs.Board.{answers}
+use Rattle.model.specs.Orders.{Order, callsOf}
 use Rattle.scripts.specs.declared.Item.{Item}
 use Rattle.scripts.specs.declared.Item.the-variants.{
   Save,
@@ -22,9 +23,7 @@ use Rattle.scripts.specs.declared.Item.the-variants.{
   Cut,
   Malformed,
 }
-use Rattle.scripts.specs.declared.Verdict.the-variants.{Whole}
 use Rattle.scripts.specs.Scripts.{
-  Order,
   First,
   firstOf,
   itemIn,
@@ -32,7 +31,7 @@ use Rattle.scripts.specs.Scripts.{
   orders,
   malformed,
   noRoom,
-  verdictOf,
+  found,
   before,
   judged,
   sizeOf,
@@ -41,34 +40,39 @@ use Rattle.scripts.specs.Scripts.{
   checked,
 }
 use Rattle.scripts.proofs.Laws.{size-at, first-inside, first-nine, check-at, check-end, bad-first}
+use Rattle.replays.specs.declared.Ran.{Ran}
 use Rattle.replays.specs.Answers.{encoded}
-use Rattle.replays.specs.Replays.{callsOf, callsFrom}
-use Rattle.replays.specs.Runs.{Run, running, ordered, followed, ordersOf}
-use Rattle.replays.proofs.Running.{run-append, run-board, run-place}
-use Rattle.replays.proofs.Room.{Fits, item-fits}
+use Rattle.replays.specs.Runs.{boardOf, Run, running, followed, ordersOf}
+use Rattle.replays.proofs.Items.{firstCalls}
+use Rattle.replays.proofs.Room.{item-fits}
+
+-- a replay as the code keeps it
+abbrev pub runIn : List ℕ → Ran → List ℕ → List ℕ → List ℕ → Run
+runIn s ran l r out =
+    record { board = boardOf s (ran .hand) (ran .held) l r; output = record { out = out; at = ran .at } }
 
 -- what lies ahead at a place of the script, where so many bytes of the output are its length: the orders from there on
 -- are well formed and have room, and making their calls gives what all calls give
 pub record Ahead (s : List ℕ) (place size : ℕ) (x whole : Run) : Type 0 where
   pub room : ℕ
   pub rest : List Order
-  pub found : checkedFrom 0 place room (drop place s) ≡ orders rest
+  pub sound : checkedFrom 0 place room (drop place s) ≡ orders rest
   pub space : x .output .at + room ≤ size
-  pub same : running (callsFrom (x .board) rest) x ≡ whole
+  pub same : running rest x ≡ whole
 
 -- ---- at first
-pub found-whole : (f : Findings) → verdictOf f ≡ Whole → f ≡ orders (ordersOf f)
+pub found-whole : (f : Findings) → found f .status ≡ 0 → f ≡ orders (ordersOf f)
 found-whole (orders xs) e = refl
-found-whole (malformed at) e = cc
-found-whole (noRoom at) e = cc
+found-whole (malformed at) e = absurd (omega arith)
+found-whole (noRoom at) e = absurd (omega arith)
 
-pub ahead : (s : List ℕ) (size : ℕ) (x : Run) → x .output .at ≡ 0 → verdictOf (checked s size) ≡ Whole
-    → Ahead s 0 size x (running (callsFrom (x .board) (ordersOf (checked s size))) x)
+pub ahead : (s : List ℕ) (size : ℕ) (x : Run) → x .output .at ≡ 0 → found (checked s size) .status ≡ 0
+    → Ahead s 0 size x (running (ordersOf (checked s size)) x)
 ahead s size x z v =
     record {
       room = size;
       rest = ordersOf (checked s size);
-      found = found-whole (checked s size) v;
+      sound = found-whole (checked s size) v;
       space = omega arith;
       same = refl;
     }
@@ -78,7 +82,7 @@ ahead s size x z v =
 record Judged (f : First) (room : ℕ) (after : Findings) (rest : List Order) : Type 0 where
   pub has : f .room ≤ room
   pub next : List Order
-  pub found : after ≡ orders next
+  pub sound : after ≡ orders next
   pub first : rest ≡ f .order ∷ next
 
 judged-on : (f : First) (at room : ℕ) (after : Findings) (rest : List Order)
@@ -89,7 +93,7 @@ judged-on f at room after rest e = go (ltb room (f .room)) after refl e
         → Judged f room g rest
     go true g q h = let z : _≡_ {A = ℕ} 0 1 = cc in absurd (omega arith)
     go false (orders xs) q h =
-        record { has = ltb-false room (f .room) q; next = xs; found = refl; first = sym (ap ordersOf h) }
+        record { has = ltb-false room (f .room) q; next = xs; sound = refl; first = sym (ap ordersOf h) }
     go false (malformed p) q h = let z : _≡_ {A = ℕ} 0 1 = cc in absurd (omega arith)
     go false (noRoom p) q h = let z : _≡_ {A = ℕ} 0 1 = cc in absurd (omega arith)
 
@@ -104,16 +108,6 @@ item-nine s place f (ReadInto o n) e = let h : 9 + n ≡ f .size = ap sizeOf e i
 item-nine s place f Cut e = let h : 9 ≡ f .size = ap sizeOf e in omega arith
 item-nine s place f Malformed e = let z : _≡_ {A = ℕ} 0 1 = cc in absurd (omega arith)
 
--- the calls of an order, and then those of the rest
-order-then : (o : Order) (next : List Order) (x : Run)
-    → running (callsFrom (x .board) (o ∷ next)) x
-    ≡ running (callsFrom (ordered o x .board) next) (ordered o x)
-unfolding callsFrom
-order-then o next x =
-    let cs = callsOf (x .board .hand) o in
-    run-append cs (callsFrom (boardAfter (x .board) cs) next) x
-    ∙ ap (λ (b : Board). running (callsFrom b next) (running cs x)) (sym (run-board cs x))
-
 -- what a call needs, and what lies ahead after it
 pub record Passed (s : List ℕ) (place size n : ℕ) (item : Item) (x whole : Run) : Type 0 where
   pub nine : place + 9 ≤ length s
@@ -125,13 +119,14 @@ pub record Passed (s : List ℕ) (place size n : ℕ) (item : Item) (x whole : R
 pub pass : (s : List ℕ) (place size n : ℕ) (item : Item) (x whole : Run) → place < length s
     → itemIn s place item ≡ firstOf (drop place s) → n ≡ sizeOf (itemIn [] 0 item) → Ahead s place size x whole
     → Passed s place size n item x whole
+unfolding running
 pass s place size n item x whole h e k a = go (itemIn s place item) refl
   where
     go : (g : Option First) → itemIn s place item ≡ g → Passed s place size n item x whole
     go none q =
         let len : length (drop place s) ≡ length s - place = length-drop place s in
         let bad = bad-first (drop place s) place (a .room) (omega arith) (sym e ∙ q) in
-        let found = a .found in
+        let sound = a .sound in
         let z : _≡_ {A = ℕ} 0 1 = cc in absurd (omega arith)
     go (some f) q =
         let first : firstOf (drop place s) ≡ some f = sym e ∙ q in
@@ -150,12 +145,12 @@ pass s place size n item x whole h e k a = go (itemIn s place item) refl
         (λ (g : Option First). judged g place (a .room)
         (checkedFrom 0 (place + sizeOf g) (a .room - roomOf g) (drop (place + sizeOf g) s)))
         first)
-        ∙ sym (check-at s place (a .room) h some-size) ∙ a .found) in
-        let cs = callsOf (x .board .hand) (f .order) in
-        let written : running cs x .output .at ≡ x .output .at + length (encoded (answers
-        (x .board) cs)) = run-place cs x in
-        let fits : length (encoded (answers (x .board) cs)) ≤ f .room =
-        subst (Fits (x .board)) q (item-fits s place (x .board) item) in
+        ∙ sym (check-at s place (a .room) h some-size) ∙ a .sound) in
+        let bytes = encoded (answers (x .board) (callsOf (x .board .hand) (f .order))) in
+        let fits : length bytes ≤ f .room =
+        subst
+        (λ (g : Option First). length (encoded (answers (x .board) (firstCalls (x .board .hand) g))) ≤ roomOf g)
+        q (item-fits s place (x .board) item) in
         let space = a .space in
         let has = j .has in
         record {
@@ -168,15 +163,17 @@ pass s place size n item x whole h e k a = go (itemIn s place item) refl
               (record {
                 room = a .room - f .room;
                 rest = j .next;
-                found =
+                sound =
                     ap (λ (m : ℕ). checkedFrom 0 (place + m) (a .room - f .room) (drop (place + m) s)) n-f
-                    ∙ j .found;
+                    ∙ j .sound;
                 space = omega arith;
-                same =
-                    sym (order-then (f .order) (j .next) x)
-                    ∙ ap (λ (o : List Order). running (callsFrom (x .board) o) x) (sym (j .first)) ∙ a .same;
+                same = ap (λ (os : List Order). running os x) (sym (j .first)) ∙ a .same;
               });
         }
+
+-- less lies ahead
+pub less-ahead : (size place n : ℕ) → place + n ≤ size → 0 < n → size - (place + n) < size - place
+less-ahead size place n h k = omega arith
 
 pub ahead-from : (s : List ℕ) (place size : ℕ) (x y whole : Run) → y ≡ x → Ahead s place size x whole
     → Ahead s place size y whole
@@ -184,7 +181,7 @@ ahead-from s place size x y whole e a = subst (λ (z : Run). Ahead s place size 
 
 -- ---- at the end
 pub at-end : (s : List ℕ) (place size : ℕ) (x whole : Run) → length s ≤ place → Ahead s place size x whole → x ≡ whole
-unfolding running callsFrom
+unfolding running
 at-end s place size x whole h a =
-    let none-left : [] ≡ a .rest = ap ordersOf (sym (check-end s place (a .room) h) ∙ a .found) in
-    ap (λ (o : List Order). running (callsFrom (x .board) o) x) none-left ∙ a .same
+    let none-left : [] ≡ a .rest = ap ordersOf (sym (check-end s place (a .room) h) ∙ a .sound) in
+    ap (λ (os : List Order). running os x) none-left ∙ a .same

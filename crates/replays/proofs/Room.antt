@@ -1,5 +1,5 @@
 -- Answers never take more than the room that the script's check keeps for them.
--- In order: answers of one byte; reads; the answers of an item.
+-- In order: answers of one byte; reads; the answers of an item; an output that is lent.
 -- Assumes nothing.
 use Prim.Native.Nat.{ℕ, zero, suc, _+_, _≤_}
 use mathlib.Core.Path.{_≡_, refl, ap}
@@ -7,19 +7,24 @@ use mathlib.Core.Bool.{Bool, true, false, cond}
 use mathlib.Core.List.{List, [], _∷_, _++_, append-nil}
 use mathlib.Core.Option.{Option, none, some}
 use native.Mathlib.Omega.{arith}
-use lib.Dec.{eqb}
+use lib.Dec.{eqb, leb}
 use lib.ListN.{length, take, drop, replicate, length-append, length-take}
-use borrow.Author.Tests.{eqb-true}
+use borrow.Author.Tests.{eq-eqb, eqb-true, le-leb}
 use Rattle.flash.specs.Flash.{erasure}
 use Rattle.flash.proofs.Laws.{length-erasure}
+use Rattle.pages.specs.declared.PageOffset.{PageOffset}
 use Rattle.pages.specs.Pages.{statusOf}
-use Rattle.reads.specs.Reads.{livePage, readNumber, readPart, outputAfter, filled}
+use Rattle.requests.specs.Legal.{Legal}
+use Rattle.requests.proofs.Laws.{legal}
+use Rattle.reads.specs.Reads.{liveNumber, livePage, readNumber, readPart, outputAfter, filled}
 use Rattle.walks.specs.Walks as W
 use Rattle.walks.specs.Walks.{Beginning, Said, beginSave, beginFormat, stepOf}
 use Rattle.model.specs.Calls.{Call}
 use Rattle.model.specs.Calls as C
 use Rattle.model.specs.Board as B
 use Rattle.model.specs.Board.{Board, afterBegin, answerOf, handed, stepHand, turn, answers}
+use Rattle.model.specs.Orders.{heldIn}
+use Rattle.boards.specs.declared.Hand.{Hand}
 use Rattle.scripts.specs.declared.Item.{Item}
 use Rattle.scripts.specs.declared.Item.the-variants.{
   Save,
@@ -31,10 +36,11 @@ use Rattle.scripts.specs.declared.Item.the-variants.{
   Cut,
   Malformed,
 }
-use Rattle.scripts.specs.Scripts.{First, itemIn, partRoom}
+use Rattle.scripts.specs.Scripts.{itemIn, partRoom, roomOf}
+use Rattle.replays.specs.declared.Span.{Span}
 use Rattle.replays.specs.Answers.{answerBytes, encoded}
-use Rattle.replays.specs.Replays.{heldIn, callsOf}
-use Rattle.replays.proofs.Turns.{room-one, read-room}
+use Rattle.replays.specs.Runs.{spanIn, jobIn}
+use Rattle.replays.proofs.Items.{firstCalls}
 
 -- how many bytes a call is answered by
 abbrev size : Board → Call → ℕ
@@ -62,16 +68,35 @@ steps-size : (n : ℕ) (b : Board) (d : List ℕ) → length (encoded (answers b
 unfolding answers encoded
 steps-size zero b d = refl
 steps-size (suc n) b d =
+    let bytes = answerBytes (turn b (C.step d) .answer) in
     let next = encoded (answers (turn b (C.step d) .board) (replicate n (C.step d))) in
-    let both : length (answerBytes (turn b (C.step d) .answer) ++ next)
-    ≡ length (answerBytes (turn b (C.step d) .answer)) + length next =
-    length-append (answerBytes (turn b (C.step d) .answer)) next in
-    let one : size b (C.step d) ≡ 1 = step-one b d in
+    let both : length (bytes ++ next) ≡ length bytes + length next = length-append bytes next in
+    let one : length bytes ≡ 1 = step-one b d in
     let more : length next ≡ n = steps-size n (turn b (C.step d) .board) d in
     omega arith
 
 -- ---- reads
-read-size : (b : Board) (o n : ℕ) → size b (C.read o n) ≤ partRoom n
+take-most : (k : ℕ) (xs : List ℕ) → length (take k xs) ≤ k
+take-most k xs = simp length-take (omega arith)
+
+-- the part that is read has room
+part-room : (l r : List ℕ) (o : PageOffset) (n : ℕ) → readNumber l r o n ≡ 0
+    → 1 + length (readPart l r o n) ≤ partRoom n
+unfolding readNumber readPart
+part-room l r o n z =
+    let page = livePage (statusOf l r .live) l r in
+    let most : length (take n (drop (o .0) page)) ≤ n = take-most n (drop (o .0) page) in
+    let part : readPart l r o n ≡ take n (drop (o .0) page) =
+    ap (λ (t : Bool). cond t (take n (drop (o .0) page)) []) (eq-eqb (readNumber l r o n) 0 z) in
+    let fits = small (legal (length l) (length r) o n (liveNumber (statusOf l r .live)) z .0) in
+    let room : partRoom n ≡ 1 + n = ap (λ (t : Bool). cond t (1 + n) 1) (le-leb n 4092 fits) in
+    let size : length (readPart l r o n) ≡ length (take n (drop (o .0) page)) = ap length part in
+    omega arith
+  where
+    small : Legal (length l) (length r) o n → n ≤ 4092
+    small h = let a = h .inImage in let b = h .most in let d = h .ends in omega arith
+
+read-size : (b : Board) (o : PageOffset) (n : ℕ) → size b (C.read o n) ≤ partRoom n
 unfolding turn
 read-size b o n = go (eqb (readNumber (b .left) (b .right) o n) 0) refl
   where
@@ -81,17 +106,21 @@ read-size b o n = go (eqb (readNumber (b .left) (b .right) o n) 0) refl
     part : List ℕ
     part = readPart (b .left) (b .right) o n
 
+    one : (t : Bool) → 1 ≤ cond t (1 + n) 1
+    one true = omega arith
+    one false = omega arith
+
     go : (t : Bool) → eqb number 0 ≡ t
         → length (answerBytes (cond t (C.bytes part) (C.number number))) ≤ partRoom n
-    go true e = let h = read-room (b .left) (b .right) o n number refl (eqb-true number 0 e) in omega arith
-    go false e = room-one n
+    go true e = let h = part-room (b .left) (b .right) o n (eqb-true number 0 e) in omega arith
+    go false e = one (leb n 4092)
 
-part-most : (l r : List ℕ) (o n : ℕ) → length (readPart l r o n) ≤ n
+part-most : (l r : List ℕ) (o : PageOffset) (n : ℕ) → length (readPart l r o n) ≤ n
 unfolding readPart
-part-most l r o n = go (eqb (readNumber l r o n) 0) (drop o (livePage (statusOf l r .live) l r))
+part-most l r o n = go (eqb (readNumber l r o n) 0) (drop (o .0) (livePage (statusOf l r .live) l r))
   where
     go : (t : Bool) (xs : List ℕ) → length (cond t (take n xs) []) ≤ n
-    go true xs = simp length-take (omega arith)
+    go true xs = take-most n xs
     go false xs = omega arith
 
 output-most : (n : ℕ) (asked out : List ℕ) → length asked ≤ length out → length (outputAfter n asked out) ≤ length out
@@ -103,7 +132,7 @@ output-most n asked out h = go (eqb n 0) (eqb n 5)
     go false true = let e = length-erasure out in omega arith
     go false false = omega arith
 
-into-size : (b : Board) (o : ℕ) (out : List ℕ) → size b (C.readInto o out) ≤ 2 + length out
+into-size : (b : Board) (o : PageOffset) (out : List ℕ) → size b (C.readInto o out) ≤ 2 + length out
 unfolding turn filled
 into-size b o out =
     let n = length out in
@@ -116,32 +145,39 @@ into-size b o out =
 single : (b : Board) (c : Call) (room : ℕ) → size b c ≤ room → length (encoded (answers b (c ∷ []))) ≤ room
 unfolding answers encoded
 single b c room h =
-    let e : length (answerBytes (turn b c .answer) ++ []) ≡ size b c = ap length (append-nil (answerBytes
-    (turn b c .answer))) in
+    let bytes = answerBytes (turn b c .answer) in
+    let e : length (answerBytes (turn b c .answer) ++ []) ≡ size b c = ap length (append-nil bytes) in
     omega arith
 
-abbrev pub Fits : Board → Option First → Type 0
-Fits b none = Unit {0}
-Fits b (some f) = length (encoded (answers b (callsOf (b .hand) (f .order)))) ≤ f .room
-
-pub item-fits : (s : List ℕ) (at : ℕ) (b : Board) (x : Item) → Fits b (itemIn s at x)
-unfolding turn
+pub item-fits : (s : List ℕ) (at : ℕ) (b : Board) (x : Item)
+    → length (encoded (answers b (firstCalls (b .hand) (itemIn s at x)))) ≤ roomOf (itemIn s at x)
+unfolding turn answers encoded
 item-fits s at b (Save o n) =
     let d = take n (drop (at + 9) s) in
     let e = begin-one b d (beginSave (b .left) (b .right) o d) in
-    single b (C.save (o .0) d) 1 (omega arith)
+    single b (C.save o d) 1 (omega arith)
 item-fits s at b Format =
     let e = begin-one b [] (beginFormat (b .left) (b .right)) in single b C.format 1 (omega arith)
 item-fits s at b (Steps n) = let e = steps-size n b (heldIn (b .hand)) in omega arith
-item-fits s at b (StepWith n) =
-    let d = take n (drop (at + 9) s) in
-    let e = step-one b d in
-    single b (C.step d) 1 (omega arith)
-item-fits s at b (Read o n) = single b (C.read (o .0) n) (partRoom n) (read-size b (o .0) n)
+item-fits s at b (StepWith n) = let e = steps-size 1 b (take n (drop (at + 9) s)) in omega arith
+item-fits s at b (Read o n) = single b (C.read o n) (partRoom n) (read-size b o n)
 item-fits s at b (ReadInto o n) =
     let d = take n (drop (at + 9) s) in
-    let h = into-size b (o .0) d in
-    let k : length d ≤ n = simp length-take (omega arith) in
-    single b (C.readInto (o .0) d) (2 + n) (omega arith)
+    let h = into-size b o d in
+    let k : length d ≤ n = take-most n (drop (at + 9) s) in
+    single b (C.readInto o d) (2 + n) (omega arith)
 item-fits s at b Cut = single b C.cut 1 (omega arith)
-item-fits s at b Malformed = tt
+item-fits s at b Malformed = omega arith
+
+-- ---- an output that is lent
+-- it has room behind the bytes before it
+pub lends : (s : List ℕ) (place start at m : ℕ) (span : Span) (item : Item) → at + roomOf (itemIn s place item) ≤ m
+    → let job = jobIn item start span in at + job .lead + length (spanIn s (job .output)) ≤ m
+lends s place start at m span (Save o n) h = omega arith
+lends s place start at m span Format h = omega arith
+lends s place start at m span (Steps n) h = omega arith
+lends s place start at m span (StepWith n) h = omega arith
+lends s place start at m span (Read o n) h = omega arith
+lends s place start at m span (ReadInto o n) h = let k = take-most n (drop start s) in omega arith
+lends s place start at m span Cut h = omega arith
+lends s place start at m span Malformed h = omega arith

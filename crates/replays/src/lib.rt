@@ -3,33 +3,30 @@
 // answers are the book's, for any bytes in the pages and in the script.
 //
 // Total: any bytes, any lengths. The whole script is checked before the first call is made.
+use boards::Answer;
+use boards::Call;
+use boards::Hand;
+use boards::Turn;
 use pages::PageOffset;
 use scripts::Item;
 use scripts::Verdict;
-use walks::Begun;
-use walks::Progress;
-use walks::Stepped;
-use walks::Walk;
-ghost use Prim.Native.Nat.{_+_, _<_, _≤_};
-ghost use mathlib.Core.List.{[], _∷_};
+ghost use Prim.Native.Nat.{_+_, _≤_};
 ghost use mathlib.Core.Path.{_≡_};
-ghost use lib.ListN.{length, take, drop, replicate};
-ghost use Rattle.flash.specs.Flash.{Outcome as Filled};
+ghost use mathlib.Core.Bool.{cond};
+ghost use lib.ListN.{length, replicate};
 ghost use Rattle.images.specs.Images.{overlaid};
-ghost use Rattle.reads.specs.Reads.{readNumber, readPart, filled};
-ghost use Rattle.model.specs.Calls.{output, step};
-ghost use Rattle.model.specs.Board.{handed, partRead, powered};
-ghost use Rattle.scripts.specs.declared.Verdict.the-variants.{Whole};
-ghost use Rattle.scripts.specs.Scripts.{itemIn, sizeOf, roomOf, partRoom, verdictOf, checked};
-ghost use Rattle.replays.specs.Answers.{answerBytes};
+ghost use Rattle.model.specs.Board.{powered};
+ghost use Rattle.scripts.specs.Scripts.{itemIn, roomOf, found, checked};
 ghost use Rattle.replays.specs.Runs.{
-  boardIn,
-  begunTurn,
-  progressCode,
-  steppedTurn,
+  spanIn,
+  boardOf,
+  shortReply,
+  replyIn,
+  lastIn,
+  repliesIn,
   heldSpan,
-  Turned,
-  turned,
+  plainJob,
+  jobIn,
   Written,
   written,
   Run,
@@ -37,7 +34,7 @@ ghost use Rattle.replays.specs.Runs.{
   followed,
   ordersOf,
 };
-ghost use Rattle.replays.specs.Replays.{callsFrom, Outcome, reportIn, replayed};
+ghost use Rattle.replays.specs.Replays.{Outcome, reportIn, replayed};
 
 // The first byte of each answer that isn't a number.
 const NOTHING: u8 = 0x00;
@@ -52,9 +49,6 @@ const PART: u8 = 0x20;
 
 const OUTPUT: u8 = 0x21;
 
-// The number of a step that doesn't fit.
-const UNFIT: u8 = 6;
-
 // How a replay is answered: how many bytes the answers take, or where the script is malformed or
 // its answers have no room.
 pub enum Replayed {
@@ -63,40 +57,53 @@ pub enum Replayed {
     NoRoom(usize),
 }
 
-// The walk in hand, if there is one, with the place and the length of its data in the script.
-enum Hand {
-    Empty,
-    Holding(Walk, usize, u32),
-}
-
 // Bytes of the script by their place and length.
 struct Span {
     start: usize,
     len: u32,
 }
 
-// The hand after a call that is answered by one byte, and that byte.
-struct Turn {
-    hand: Hand,
+// An answer: its first byte, so many times a number after it and a part of the live page, and
+// whether a walk was begun.
+struct Reply {
     code: u8,
+    count: usize,
+    number: u8,
+    offset: PageOffset,
+    len: u32,
+    begun: bool,
 }
 
-// The hand after a call, and the place in the output after its answer.
+// How a call of a script is made: the call of a board, how many answers it has, where the data and
+// the output lie in the script that are lent to it, and how many bytes of its answer stand before
+// that output.
+struct Job {
+    call: Call,
+    times: u32,
+    bytes: Span,
+    output: Span,
+    lead: usize,
+}
+
+// What is kept from call to call: the walk in hand, where its data lies in the script, and the
+// place in the output.
 struct Ran {
     hand: Hand,
+    held: Span,
     at: usize,
 }
 
 // ---- bytes of the script and of the output
 // The bytes of a span, as far as the script has them.
-fn part(script: &[u8], start: usize, len: u32) -> &[u8]
-    ensures { λ r. ⌜ now r ≡ take len (drop start (now (script .entry))) ⌝ }
+fn part(script: &[u8], span: Span) -> &[u8]
+    ensures { λ r. ⌜ now r ≡ spanIn (now (script .entry)) span ⌝ }
 {
     let end = script.len();
+    let start = span.start;
     if end <= start {
         return &script[0..0];
     }
-    let size = len as usize;
+    let size = span.len as usize;
     if end - start <= size {
         return &script[start..];
     }
@@ -104,11 +111,16 @@ fn part(script: &[u8], start: usize, len: u32) -> &[u8]
     &script[start..stop]
 }
 
-fn put(out: &mut [u8], at: usize, value: u8)
-    requires { ⌜ at < length (now out) ⌝ }
-    ensures { λ _. ⌜ now (out .exit) ≡ overlaid (now (out .entry)) at (value ∷ []) ⌝ }
+// The same byte, so many times.
+fn put_all(out: &mut [u8], at: usize, count: usize, value: u8)
+    requires { ⌜ at + count ≤ length (now out) ⌝ }
+    ensures { λ _.
+        ⌜ now (out .exit) ≡ overlaid (now (out .entry)) at (replicate count value) ⌝ }
 {
-    out[at] = value;
+    let end = at + count;
+    for i in at..end {
+        out[i] = value;
+    }
 }
 
 fn put_part(out: &mut [u8], at: usize, bytes: &[u8])
@@ -118,354 +130,232 @@ fn put_part(out: &mut [u8], at: usize, bytes: &[u8])
     bytes::copy(bytes, &mut out[at..]);
 }
 
-// ---- beginnings and steps
-// The hand after a beginning with these data: a walk that is begun replaces any former one.
-fn begun_turn(hand: Hand, begun: Begun, start: usize, len: u32) -> Turn
-    ensures { λ r. ⌜ r ≡ begunTurn hand begun start len ⌝ }
+// ---- answers
+// An answer of one byte.
+fn short(code: u8, begun: bool) -> Reply
+    ensures { λ r. ⌜ r ≡ shortReply code begun ⌝ }
 {
-    match begun {
-        Begun::On(walk) => Turn {
-            hand: Hand::Holding(walk, start, len),
-            code: BEGUN,
-        },
-        Begun::Refused(why) => Turn {
-            hand: hand,
-            code: why.number(),
-        },
+    Reply {
+        code: code,
+        count: 0,
+        number: 0,
+        offset: PageOffset(0),
+        len: 0,
+        begun: begun,
     }
 }
 
-fn progress_code(progress: Progress) -> u8
-    ensures { λ r. ⌜ r ≡ progressCode progress ⌝ }
+// The answer to so many calls: that to each after the steps made, or a step made where all were.
+fn reply_of(turn: Turn, times: u32) -> Reply
+    ensures { λ r. ⌜ r ≡ replyIn (lastIn turn times) ⌝ }
 {
-    match progress {
-        Progress::Made => MADE,
-        Progress::Ended => ENDED,
-        Progress::Unfit => UNFIT,
+    if turn.made == times {
+        return short(MADE, false);
     }
-}
-
-// The hand after a step of the walk whose data is this span: the walk handed on.
-fn stepped_turn(stepped: Stepped, start: usize, len: u32) -> Turn
-    ensures { λ r. ⌜ r ≡ steppedTurn stepped start len ⌝ }
-{
-    let walk = stepped.walk;
-    let progress = stepped.progress;
-    Turn {
-        hand: Hand::Holding(walk, start, len),
-        code: progress_code(progress),
-    }
-}
-
-// The data handed to a step: the held data where the lengths agree, else the data given.
-fn handed<'a>(own: &'a [u8], given: &'a [u8]) -> &'a [u8]
-    ensures { λ r. ⌜ now r ≡ handed (now (own .entry)) (now (given .entry)) ⌝ }
-{
-    if given.len() != own.len() {
-        return given;
-    }
-    own
-}
-
-// One step of the walk in hand with these bytes of the script.
-fn step_hand(
-    hand: Hand,
-    left: &mut [u8],
-    right: &mut [u8],
-    script: &[u8],
-    start: usize,
-    len: u32,
-) -> Turn
-    ensures { λ r.
-        ⌜ _≡_ {A = Turned}
-        (record {
-          bytes = r .code ∷ [];
-          board = boardIn (now (script .entry)) (r .hand) (now (left .exit)) (now (right .exit));
-        })
-        (turned
-        (boardIn (now (script .entry)) hand (now (left .entry)) (now (right .entry)))
-        (step (take len (drop start (now (script .entry)))))) ⌝ }
-{
-    match hand {
-        Hand::Empty => Turn {
-            hand: hand,
-            code: NOTHING,
-        },
-        Hand::Holding(walk, from, size) => {
-            let data = handed(part(script, from, size), part(script, start, len));
-            stepped_turn(walk.step(left, right, data), from, size)
-        }
-    }
-}
-
-// The span of the held data; empty with no walk.
-fn held_span(hand: Hand) -> Span
-    ensures { λ r. ⌜ r ≡ heldSpan hand ⌝ }
-{
-    match hand {
-        Hand::Empty => Span { start: 0, len: 0 },
-        Hand::Holding(_, start, len) => Span {
-            start: start,
+    let answer = turn.answer;
+    match answer {
+        Answer::Nothing => short(NOTHING, false),
+        Answer::Begun => short(BEGUN, true),
+        Answer::Made => short(MADE, false),
+        Answer::Ended => short(ENDED, false),
+        Answer::Number(number) => short(number, false),
+        Answer::Part(offset, len) => Reply {
+            code: PART,
+            count: 0,
+            number: 0,
+            offset: offset,
             len: len,
+            begun: false,
+        },
+        Answer::Output(number) => Reply {
+            code: OUTPUT,
+            count: 1,
+            number: number,
+            offset: PageOffset(0),
+            len: 0,
+            begun: false,
         },
     }
 }
 
-// Writes the answer of a call that is answered by one byte.
-fn put_turn(turn: Turn, out: &mut [u8], at: usize) -> Ran
-    requires { ⌜ at < length (now out) ⌝ }
-    ensures { λ r.
-        ⌜ (r ≡ (record { hand = turn .hand; at = at + 1 }))
-        × (now (out .exit) ≡ overlaid (now (out .entry)) at (turn .code ∷ [])) ⌝ }
-{
-    let hand = turn.hand;
-    put(out, at, turn.code);
-    Ran {
-        hand: hand,
-        at: at + 1,
-    }
-}
-
-// Steps of the walk in hand, so many, each with these bytes of the script.
-fn run_steps(
-    hand: Hand,
+// Writes the answers to so many calls, up to an output; gives the place after them.
+fn put_replies<'a>(
+    reply: Reply,
+    made: u32,
     times: u32,
-    left: &mut [u8],
-    right: &mut [u8],
-    script: &[u8],
-    start: usize,
-    len: u32,
-    out: &mut [u8],
-    at: usize,
-) -> Ran
-    requires { ⌜ at + times ≤ length (now out) ⌝ }
-    ensures { λ r.
-        ⌜ _≡_ {A = Run}
-        (record {
-          board = boardIn (now (script .entry)) (r .hand) (now (left .exit)) (now (right .exit));
-          output = record { out = now (out .exit); at = r .at };
-        })
-        (running (replicate times (step (take len (drop start (now (script .entry))))))
-        (record {
-          board = boardIn (now (script .entry)) hand (now (left .entry)) (now (right .entry));
-          output = record { out = now (out .entry); at = at };
-        })) ⌝ }
-{
-    let mut held = hand;
-    let mut place = at;
-    let mut i: u32 = 0;
-    while i < times {
-        let ran = put_turn(step_hand(held, left, right, script, start, len), out, place);
-        let next = ran.hand;
-        held = next;
-        place = ran.at;
-        i = i + 1;
-    }
-    Ran {
-        hand: held,
-        at: place,
-    }
-}
-
-// ---- reads
-// Reads a part and writes its answer; gives the place after it.
-fn run_read<'a>(
     left: &'a [u8],
     right: &'a [u8],
-    offset: PageOffset,
-    len: u32,
     out: &mut [u8],
     at: usize,
 ) -> usize
-    requires { ⌜ at + partRoom len ≤ length (now out) ⌝ }
+    requires { ⌜ (made ≤ times)
+        × (at + length (repliesIn times made reply (now left) (now right)) ≤ length (now out)) ⌝ }
     ensures { λ r.
         ⌜ _≡_ {A = Written} (record { out = now (out .exit); at = r })
-        (written (now (out .entry)) at (answerBytes
-        (partRead
-        (readNumber (now (left .entry)) (now (right .entry)) (offset .0) len)
-        (readPart (now (left .entry)) (now (right .entry)) (offset .0) len)))) ⌝ }
+        (written (now (out .entry)) at
+        (repliesIn times made reply (now (left .entry)) (now (right .entry)))) ⌝ }
 {
-    let number = reads::check_read(left, right, offset, len).number();
-    if number != 0 {
-        put(out, at, number);
-        return at + 1;
-    }
-    let bytes = reads::read(left, right, offset, len);
-    let start = at + 1;
-    put(out, at, PART);
+    let count = made as usize;
+    let rest = at + count;
+    let end = at + times as usize;
+    let start = end + reply.count;
+    let bytes = reads::read(left, right, reply.offset, reply.len);
+    put_all(out, at, count, MADE);
+    put_all(out, rest, end - rest, reply.code);
+    put_all(out, end, reply.count, reply.number);
     put_part(out, start, bytes);
     start + bytes.len()
 }
 
-// Reads into an output of which a copy is given; the number comes back.
-fn read_copy<'a>(
-    left: &'a [u8],
-    right: &'a [u8],
-    offset: PageOffset,
-    given: &[u8],
-    copy: &mut [u8],
-) -> u8
-    requires { ⌜ length (now copy) ≡ length (now given) ⌝ }
-    ensures { λ r.
-        ⌜ _≡_ {A = Filled} (record { number = r; bytes = now (copy .exit) })
-        (filled
-        (now (left .entry))
-        (now (right .entry))
-        (offset .0)
-        (now (given .entry))) ⌝ }
+// ---- calls
+// The span of the held data; empty with no walk.
+fn held_span(hand: Hand, held: Span) -> Span
+    ensures { λ r. ⌜ r ≡ heldSpan hand held ⌝ }
 {
-    bytes::copy(given, copy);
-    let reading = reads::read_into(left, right, offset, copy);
-    reading.number()
+    match hand {
+        Hand::Empty => Span { start: 0, len: 0 },
+        Hand::Holding(_) => held,
+    }
 }
 
-// The answer of such a read: what the output holds stands after its first two bytes.
-fn read_answer<'a>(
-    left: &'a [u8],
-    right: &'a [u8],
-    offset: PageOffset,
-    given: &[u8],
-    answer: &mut [u8],
-)
-    requires { ⌜ length (now answer) ≡ 2 + length (now given) ⌝ }
-    ensures { λ _.
-        ⌜ now (answer .exit)
-        ≡ (let f = filled (now (left .entry)) (now (right .entry)) (offset .0) (now (given .entry)) in
-        answerBytes (output (f .number) (f .bytes))) ⌝ }
+// Where the data of the walk in hand lies after an answer: its own where it is begun.
+fn held_after(begun: bool, own: Span, held: Span) -> Span
+    ensures { λ r. ⌜ r ≡ cond begun own held ⌝ }
 {
-    let number = read_copy(left, right, offset, given, &mut answer[2..]);
-    answer[0] = OUTPUT;
-    answer[1] = number;
+    if begun {
+        return own;
+    }
+    held
 }
 
-// Reads into an output that holds these bytes and writes its answer; gives the place after it.
-fn run_read_into<'a>(
-    left: &'a [u8],
-    right: &'a [u8],
-    offset: PageOffset,
-    given: &[u8],
-    out: &mut [u8],
-    at: usize,
-) -> usize
-    requires { ⌜ at + (2 + length (now given)) ≤ length (now out) ⌝ }
-    ensures { λ r.
-        ⌜ _≡_ {A = Written} (record { out = now (out .exit); at = r })
-        (let f = filled (now (left .entry)) (now (right .entry)) (offset .0) (now (given .entry)) in
-        written (now (out .entry)) at (answerBytes (output (f .number) (f .bytes)))) ⌝ }
+// A call that is lent these bytes of the script, and no output.
+fn plain(call: Call, times: u32, start: usize, len: u32) -> Job
+    ensures { λ r. ⌜ r ≡ plainJob call times (record { start = start; len = len }) ⌝ }
 {
-    let end = at + 2 + given.len();
-    read_answer(left, right, offset, given, &mut out[at..end]);
-    end
+    Job {
+        call: call,
+        times: times,
+        bytes: Span {
+            start: start,
+            len: len,
+        },
+        output: Span { start: 0, len: 0 },
+        lead: 0,
+    }
+}
+
+// The call of an item whose own bytes begin at a place of the script, with this walk in hand.
+fn job_of(item: Item, start: usize, hand: Hand, held: Span) -> Job
+    ensures { λ r. ⌜ r ≡ jobIn item start (heldSpan hand held) ⌝ }
+{
+    match item {
+        Item::Save(offset, len) => plain(Call::Save(offset), 1, start, len),
+        Item::Format => plain(Call::Format, 1, 0, 0),
+        Item::Steps(times) => {
+            let span = held_span(hand, held);
+            plain(Call::Step(times), times, span.start, span.len)
+        }
+        Item::StepWith(len) => plain(Call::Step(1), 1, start, len),
+        Item::Read(offset, len) => plain(Call::Read(offset, len), 1, 0, 0),
+        Item::ReadInto(offset, len) => Job {
+            call: Call::ReadInto(offset),
+            times: 1,
+            bytes: Span { start: 0, len: 0 },
+            output: Span {
+                start: start,
+                len: len,
+            },
+            lead: 2,
+        },
+        Item::Cut => plain(Call::Cut, 1, 0, 0),
+        Item::Malformed => plain(Call::Step(0), 0, 0, 0),
+    }
 }
 
 // ---- a script
-// Makes the calls of an item that begins at a place of the script, and writes their answers.
+// Makes the calls of an item that begins at a place of the script, and writes their answers. An
+// output is laid in where it stands in its answer, and lent from there.
 fn run_item(
-    hand: Hand,
+    ran: Ran,
     item: Item,
     place: usize,
     left: &mut [u8],
     right: &mut [u8],
     script: &[u8],
     out: &mut [u8],
-    at: usize,
 ) -> Ran
     requires { ⌜ (place + 9 ≤ length (now script))
-        × (at + roomOf (itemIn (now script) place item) ≤ length (now out)) ⌝ }
+        × (ran .at + roomOf (itemIn (now script) place item) ≤ length (now out)) ⌝ }
     ensures { λ r.
         ⌜ _≡_ {A = Run}
         (record {
-          board = boardIn (now (script .entry)) (r .hand) (now (left .exit)) (now (right .exit));
+          board =
+              boardOf (now (script .entry)) (r .hand) (r .held) (now (left .exit)) (now (right .exit));
           output = record { out = now (out .exit); at = r .at };
         })
         (followed (itemIn (now (script .entry)) place item)
         (record {
-          board = boardIn (now (script .entry)) hand (now (left .entry)) (now (right .entry));
-          output = record { out = now (out .entry); at = at };
+          board = boardOf
+              (now (script .entry)) (ran .hand) (ran .held) (now (left .entry)) (now (right .entry));
+          output = record { out = now (out .entry); at = ran .at };
         })) ⌝ }
 {
-    let start = place + scripts::HEAD_SIZE;
-    match item {
-        Item::Save(offset, len) => {
-            let begun = Walk::save(left, right, offset, part(script, start, len));
-            put_turn(begun_turn(hand, begun, start, len), out, at)
-        }
-        Item::Format => {
-            let begun = Walk::format(left, right);
-            put_turn(begun_turn(hand, begun, start, 0), out, at)
-        }
-        Item::Steps(times) => {
-            let span = held_span(hand);
-            run_steps(
-                hand,
-                times,
-                left,
-                right,
-                script,
-                span.start,
-                span.len,
-                out,
-                at,
-            )
-        }
-        Item::StepWith(len) => run_steps(hand, 1, left, right, script, start, len, out, at),
-        Item::Read(offset, len) => {
-            let next = run_read(left, right, offset, len, out, at);
-            Ran {
-                hand: hand,
-                at: next,
-            }
-        }
-        Item::ReadInto(offset, len) => {
-            let next = run_read_into(left, right, offset, part(script, start, len), out, at);
-            Ran {
-                hand: hand,
-                at: next,
-            }
-        }
-        Item::Cut => put_turn(
-            Turn {
-                hand: Hand::Empty,
-                code: NOTHING,
-            },
-            out,
-            at,
-        ),
-        Item::Malformed => Ran { hand: hand, at: at },
+    let hand = ran.hand;
+    let job = job_of(item, place + scripts::HEAD_SIZE, hand, ran.held);
+    let call = job.call;
+    let given = part(script, job.output);
+    let start = ran.at + job.lead;
+    let stop = start + given.len();
+    put_part(out, start, given);
+    let turn = boards::make(
+        call,
+        hand,
+        part(script, ran.held),
+        part(script, job.bytes),
+        left,
+        right,
+        &mut out[start..stop],
+    );
+    let next = turn.hand;
+    let reply = reply_of(turn, job.times);
+    let end = put_replies(reply, turn.made, job.times, left, right, out, ran.at);
+    let after = end + given.len();
+    Ran {
+        hand: next,
+        held: held_after(reply.begun, job.bytes, ran.held),
+        at: after,
     }
 }
 
 // Makes the calls of a script that was found whole.
 fn run(left: &mut [u8], right: &mut [u8], script: &[u8], out: &mut [u8]) -> Ran
-    requires { ⌜ verdictOf (checked (now script) (length (now out))) ≡ Whole ⌝ }
+    requires { ⌜ found (checked (now script) (length (now out))) .status ≡ 0 ⌝ }
     ensures { λ r.
         ⌜ _≡_ {A = Run}
         (record {
-          board = boardIn (now (script .entry)) (r .hand) (now (left .exit)) (now (right .exit));
+          board =
+              boardOf (now (script .entry)) (r .hand) (r .held) (now (left .exit)) (now (right .exit));
           output = record { out = now (out .exit); at = r .at };
         })
-        (running
-        (callsFrom
-        (powered (now (left .entry)) (now (right .entry)))
-        (ordersOf (checked (now (script .entry)) (length (now (out .entry))))))
+        (running (ordersOf (checked (now (script .entry)) (length (now (out .entry)))))
         (record {
           board = powered (now (left .entry)) (now (right .entry));
           output = record { out = now (out .entry); at = 0 };
         })) ⌝ }
 {
-    let mut hand = Hand::Empty;
+    let mut ran = Ran {
+        hand: Hand::Empty,
+        held: Span { start: 0, len: 0 },
+        at: 0,
+    };
     let mut place: usize = 0;
-    let mut at: usize = 0;
     while place < script.len() {
         let item = scripts::item_at(script, place);
         let size = item.size();
-        let ran = run_item(hand, item, place, left, right, script, out, at);
-        let next = ran.hand;
-        hand = next;
-        at = ran.at;
+        ran = run_item(ran, item, place, left, right, script, out);
         place = place + size;
     }
-    Ran { hand: hand, at: at }
+    ran
 }
 
 // Checks a whole script and, where it is well formed and its answers have room, makes its calls on

@@ -2,15 +2,16 @@
 // before a byte of a page is looked at.
 //
 // What each answer means, and each number's case, is in specs/Numbers.antt.
-use pages::InImage;
 use pages::PageOffset;
 ghost use mathlib.Core.Path.{_≡_};
 ghost use Rattle.requests.specs.Numbers.{
   numberOf,
   numberIn,
+  lengthsNumber,
   pagesNumber,
   endNumber,
   spanNumber,
+  numberWithin,
   requestNumber,
 };
 
@@ -42,9 +43,9 @@ impl Refusal {
     }
 }
 
-// Number 1, from the lengths of the two pages.
-pub fn check_pages(left: usize, right: usize) -> Check
-    ensures { λ r. ⌜ numberIn r ≡ pagesNumber left right ⌝ }
+// Number 1, from the lengths of the two pages and the least and the greatest that a page may have.
+pub fn check_lengths(left: usize, right: usize, least: usize, greatest: usize) -> Check
+    ensures { λ r. ⌜ numberIn r ≡ lengthsNumber least greatest left right ⌝ }
 {
     if left != right {
         return Check::Refused(Refusal::PageLength);
@@ -52,19 +53,27 @@ pub fn check_pages(left: usize, right: usize) -> Check
     if left % 2 != 0 {
         return Check::Refused(Refusal::PageLength);
     }
-    if left < pages::MIN_PAGE {
+    if left < least {
         return Check::Refused(Refusal::PageLength);
     }
-    if pages::MAX_PAGE < left {
+    if greatest < left {
         return Check::Refused(Refusal::PageLength);
     }
     Check::Legal
 }
 
-// Number 4, with no sum that could wrap.
-fn check_end(page: usize, start: usize, len: usize) -> Check
-    ensures { λ r. ⌜ numberIn r ≡ endNumber page start len 0 ⌝ }
+// Number 1.
+pub fn check_pages(left: usize, right: usize) -> Check
+    ensures { λ r. ⌜ numberIn r ≡ pagesNumber left right ⌝ }
 {
+    check_lengths(left, right, pages::MIN_PAGE, pages::MAX_PAGE)
+}
+
+// Number 4, with no sum that could wrap.
+fn check_end(page: usize, offset: PageOffset, len: usize) -> Check
+    ensures { λ r. ⌜ numberIn r ≡ endNumber page offset len 0 ⌝ }
+{
+    let start = offset.0 as usize;
     if page <= start {
         return Check::Refused(Refusal::PastEnd);
     }
@@ -74,9 +83,9 @@ fn check_end(page: usize, start: usize, len: usize) -> Check
     Check::Refused(Refusal::PastEnd)
 }
 
-// Numbers 2 to 4 of a request to pages of one length.
+// Numbers 2 to 4, in their order, of a request to pages of one length.
 fn check_span(page: usize, offset: PageOffset, len: usize) -> Check
-    ensures { λ r. ⌜ numberIn r ≡ spanNumber page (offset .0) len 0 ⌝ }
+    ensures { λ r. ⌜ numberIn r ≡ spanNumber page offset len 0 ⌝ }
 {
     let start = offset.0;
     if start % 2 != 0 {
@@ -85,19 +94,33 @@ fn check_span(page: usize, offset: PageOffset, len: usize) -> Check
     if len % 2 != 0 {
         return Check::Refused(Refusal::OddRequest);
     }
-    match offset.to_image() {
-        InImage::Management => Check::Refused(Refusal::InManagement),
-        InImage::At(_) => check_end(page, start as usize, len),
+    if start < pages::MANAGEMENT_SIZE {
+        return Check::Refused(Refusal::InManagement);
     }
+    check_end(page, offset, len)
 }
 
-// Numbers 1 to 4, in their order, from the lengths of the pages, the offset and the length asked
-// for. No byte of a page is looked at.
-pub fn check_request(left: usize, right: usize, offset: PageOffset, len: usize) -> Check
-    ensures { λ r. ⌜ numberIn r ≡ requestNumber left right (offset .0) len 0 ⌝ }
+// Numbers 1 to 4, in their order, from the lengths of the pages, the least and the greatest that a
+// page may have, the offset and the length asked for. No byte of a page is looked at.
+pub fn check_within(
+    left: usize,
+    right: usize,
+    least: usize,
+    greatest: usize,
+    offset: PageOffset,
+    len: usize,
+) -> Check
+    ensures { λ r. ⌜ numberIn r ≡ numberWithin least greatest left right offset len ⌝ }
 {
-    match check_pages(left, right) {
+    match check_lengths(left, right, least, greatest) {
         Check::Refused(why) => Check::Refused(why),
         Check::Legal => check_span(left, offset, len),
     }
+}
+
+// Numbers 1 to 4.
+pub fn check_request(left: usize, right: usize, offset: PageOffset, len: usize) -> Check
+    ensures { λ r. ⌜ numberIn r ≡ requestNumber left right offset len 0 ⌝ }
+{
+    check_within(left, right, pages::MIN_PAGE, pages::MAX_PAGE, offset, len)
 }

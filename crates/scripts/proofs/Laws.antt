@@ -14,6 +14,7 @@ use borrow.Author.Tests.{ne-eqb, lt-ltb, le-ltb, ltb-false, leb-true}
 use borrow.Rule.Slice.PartMut.{midOf}
 use Rattle.pages.specs.Pages.{wordOf}
 use Rattle.flash.proofs.Laws.{and-right}
+use Rattle.model.specs.Orders.{Order}
 use Rattle.scripts.specs.declared.Item.{Item}
 use Rattle.scripts.specs.declared.Item.the-variants.{
   Save,
@@ -27,7 +28,6 @@ use Rattle.scripts.specs.declared.Item.the-variants.{
 }
 use Rattle.scripts.specs.declared.Verdict as D
 use Rattle.scripts.specs.Scripts.{
-  Order,
   First,
   numberAt,
   short,
@@ -39,7 +39,8 @@ use Rattle.scripts.specs.Scripts.{
   orders,
   malformed,
   noRoom,
-  verdictOf,
+  found,
+  verdictIn,
   before,
   judged,
   sizeOf,
@@ -267,46 +268,47 @@ no-size Cut h = absurd (omega arith)
 no-size Malformed h = refl
 
 pub check-bad : (s : List ℕ) (at room n : ℕ) (x : Item) → at < length s → itemIn s at x ≡ firstOf (drop at s)
-    → n ≡ sizeOf (itemIn [] 0 x) → n ≡ 0 → D.the-variants.Malformed at ≡ verdictOf (checkedFrom 0 at room (drop at s))
+    → n ≡ sizeOf (itemIn [] 0 x) → n ≡ 0 → verdictIn (D.the-variants.Malformed at) ≡ found (checkedFrom 0 at room
+    (drop at s))
 check-bad s at room n x h e k z =
     let len : length (drop at s) ≡ length s - at = length-drop at s in
     let bad : x ≡ Malformed = no-size x (sym z ∙ k) in
-    sym (ap verdictOf (bad-first (drop at s) at room (omega arith) (sym e ∙ ap (itemIn s at) bad)))
+    sym (ap found (bad-first (drop at s) at room (omega arith) (sym e ∙ ap (itemIn s at) bad)))
 
 -- what the verdict is where a call has no room, and where it has
 full : (f : Option First) (at room : ℕ) (rest : Findings) → (sizeOf f ≡ 0 → ⊥) → room < roomOf f
-    → D.the-variants.NoRoom at ≡ verdictOf (judged f at room rest)
+    → verdictIn (D.the-variants.NoRoom at) ≡ found (judged f at room rest)
 full none at room rest z h = absurd (z refl)
 full (some f) at room rest z h =
-    sym (ap (λ (t : Bool). verdictOf (cond t (noRoom at) (before (f .order) rest))) (lt-ltb room (f .room) h))
+    sym (ap (λ (t : Bool). found (cond t (noRoom at) (before (f .order) rest))) (lt-ltb room (f .room) h))
 
-verdict-before : (x : Order) (rest : Findings) → verdictOf (before x rest) ≡ verdictOf rest
+verdict-before : (x : Order) (rest : Findings) → found (before x rest) ≡ found rest
 verdict-before x (orders xs) = refl
 verdict-before x (malformed at) = refl
 verdict-before x (noRoom at) = refl
 
 on : (f : Option First) (at room : ℕ) (rest : Findings) → (sizeOf f ≡ 0 → ⊥) → roomOf f ≤ room
-    → verdictOf (judged f at room rest) ≡ verdictOf rest
+    → found (judged f at room rest) ≡ found rest
 on none at room rest z h = absurd (z refl)
 on (some f) at room rest z h =
-    ap (λ (t : Bool). verdictOf (cond t (noRoom at) (before (f .order) rest))) (le-ltb room (f .room) h)
+    ap (λ (t : Bool). found (cond t (noRoom at) (before (f .order) rest))) (le-ltb room (f .room) h)
     ∙ verdict-before (f .order) rest
 
 -- both of the item that the code looks at, of size n and room m
 pub check-full : (s : List ℕ) (at room n m : ℕ) (x : Item) → at < length s → itemIn s at x ≡ firstOf (drop at s)
     → n ≡ sizeOf (itemIn [] 0 x) → m ≡ roomOf (itemIn [] 0 x) → (n ≡ 0 → ⊥) → room < m
-    → D.the-variants.NoRoom at ≡ verdictOf (checkedFrom 0 at room (drop at s))
+    → verdictIn (D.the-variants.NoRoom at) ≡ found (checkedFrom 0 at room (drop at s))
 check-full s at room n m x h e k j z r =
     let size : n ≡ sizeOf (firstOf (drop at s)) = size-at s at n x e k in
     let need : m ≡ roomOf (firstOf (drop at s)) = room-at s at m x e j in
     let some-size : sizeOf (firstOf (drop at s)) ≡ 0 → ⊥ = λ q. z (size ∙ q) in
     full (firstOf (drop at s)) at room _ some-size (omega arith)
-    ∙ sym (ap verdictOf (check-at s at room h some-size))
+    ∙ sym (ap found (check-at s at room h some-size))
 
 pub check-on : (s : List ℕ) (at room n m : ℕ) (x : Item) → at < length s → itemIn s at x ≡ firstOf (drop at s)
     → n ≡ sizeOf (itemIn [] 0 x) → m ≡ roomOf (itemIn [] 0 x) → (n ≡ 0 → ⊥) → m ≤ room
     → (at + n ≤ length s)
-    × (verdictOf (checkedFrom 0 at room (drop at s)) ≡ verdictOf (checkedFrom 0 (at + n) (room - m) (drop
+    × (found (checkedFrom 0 at room (drop at s)) ≡ found (checkedFrom 0 (at + n) (room - m) (drop
     (at + n) s)))
 check-on s at room n m x h e k j z r =
     let f = firstOf (drop at s) in
@@ -316,7 +318,7 @@ check-on s at room n m x h e k j z r =
     let len : length (drop at s) ≡ length s - at = length-drop at s in
     let within : sizeOf f ≤ length (drop at s) = first-inside (drop at s) in (
       omega arith,
-      ap verdictOf (check-at s at room h some-size)
+      ap found (check-at s at room h some-size)
           ∙ on f at room _ some-size (omega arith)
-          ∙ (λ i. verdictOf (checkedFrom 0 (at + sym size i) (room - sym need i) (drop (at + sym size i) s))),
+          ∙ (λ i. found (checkedFrom 0 (at + sym size i) (room - sym need i) (drop (at + sym size i) s))),
     )

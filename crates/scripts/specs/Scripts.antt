@@ -7,18 +7,14 @@ use mathlib.Core.List.{List, [], _∷_}
 use mathlib.Core.Option.{Option, none, some}
 use lib.Dec.{eqb, ltb, leb}
 use lib.ListN.{length, getD, take, drop}
+use Rattle.pages.specs.declared.PageOffset.{PageOffset}
 use Rattle.pages.specs.Pages.{wordOf}
-use Rattle.model.specs.Calls.{Call}
 use Rattle.model.specs.Calls as C
+use Rattle.model.specs.Orders.{Order, one, held}
 use Rattle.scripts.specs.declared.Item.{Item}
 use Rattle.scripts.specs.declared.Item as I
 use Rattle.scripts.specs.declared.Verdict.{Verdict}
 use Rattle.scripts.specs.declared.Verdict as D
-
--- a call with its arguments, or steps with the held data, so many
-pub data Order : Type 0 where
-  one : Call → Order
-  held : ℕ → Order
 
 -- the first call of a script: what it orders, how many bytes of the script it takes, and how many
 -- bytes of the output its answers take at most
@@ -30,6 +26,10 @@ pub record First : Type 0 where
 -- four bytes as a number, "lowest byte first": read as a management word is
 abbrev pub numberAt : List ℕ → ℕ → ℕ
 numberAt s i = wordOf (drop i s)
+
+-- a number that is a page offset
+abbrev pub at : ℕ → PageOffset
+at a = record { 0 = a }
 
 -- a call of nine bytes; "other than 0 where the table says 0" is malformed
 abbrev pub short : Bool → Order → ℕ → Option First
@@ -50,12 +50,12 @@ partRoom b = cond (leb b 4092) (1 + b) 1
 -- the table of kinds: kind, A, B and the bytes after them
 unfoldable pub kindOf : ℕ → ℕ → ℕ → List ℕ → Option First
 kindOf kind a b own =
-    cond (eqb kind 1) (long true (one (C.save a (take b own))) 1 b own)
+    cond (eqb kind 1) (long true (one (C.save (at a) (take b own))) 1 b own)
     (cond (eqb kind 2) (short (eqb a 0 && eqb b 0) (one C.format) 1)
     (cond (eqb kind 3) (short (eqb b 0) (held a) a)
     (cond (eqb kind 4) (long (eqb a 0) (one (C.step (take b own))) 1 b own)
-    (cond (eqb kind 5) (short true (one (C.read a b)) (partRoom b))
-    (cond (eqb kind 6) (long true (one (C.readInto a (take b own))) (2 + b) b own)
+    (cond (eqb kind 5) (short true (one (C.read (at a) b)) (partRoom b))
+    (cond (eqb kind 6) (long true (one (C.readInto (at a) (take b own))) (2 + b) b own)
     (cond (eqb kind 7) (short (eqb a 0 && eqb b 0) (one C.cut) 1)
     none))))))
 
@@ -69,17 +69,17 @@ firstOf s =
 -- the call that each case of the code's enum stands for, at a place of the script
 abbrev pub itemIn : List ℕ → ℕ → Item → Option First
 itemIn s at (I.the-variants.Save o n) =
-    some (record { order = one (C.save (o .0) (take n (drop (at + 9) s))); size = 9 + n; room = 1 })
+    some (record { order = one (C.save o (take n (drop (at + 9) s))); size = 9 + n; room = 1 })
 itemIn s at I.the-variants.Format = some (record { order = one C.format; size = 9; room = 1 })
 itemIn s at (I.the-variants.Steps n) = some (record { order = held n; size = 9; room = n })
 itemIn s at (I.the-variants.StepWith n) =
     some (record { order = one (C.step (take n (drop (at + 9) s))); size = 9 + n; room = 1 })
 itemIn s at (I.the-variants.Read o n) =
-    some (record { order = one (C.read (o .0) n); size = 9; room = partRoom n })
+    some (record { order = one (C.read o n); size = 9; room = partRoom n })
 itemIn s at (I.the-variants.ReadInto o n) =
     some
     (record {
-      order = one (C.readInto (o .0) (take n (drop (at + 9) s)));
+      order = one (C.readInto o (take n (drop (at + 9) s)));
       size = 9 + n;
       room = 2 + n;
     })
@@ -94,11 +94,22 @@ pub data Findings : Type 0 where
   malformed : ℕ → Findings
   noRoom : ℕ → Findings
 
--- the answer for each
-abbrev pub verdictOf : Findings → Verdict
-verdictOf (orders xs) = D.the-variants.Whole
-verdictOf (malformed at) = D.the-variants.Malformed at
-verdictOf (noRoom at) = D.the-variants.NoRoom at
+-- status and place: "0" where the script is whole, "1" with the byte at which the first malformed
+-- call begins, "2" with that of the first whose answers have no room
+pub record Report : Type 0 where
+  pub status : ℕ
+  pub place : ℕ
+
+abbrev pub found : Findings → Report
+found (orders xs) = record { status = 0; place = 0 }
+found (malformed place) = record { status = 1; place = place }
+found (noRoom place) = record { status = 2; place = place }
+
+-- and those of each answer of a check
+abbrev pub verdictIn : Verdict → Report
+verdictIn D.the-variants.Whole = record { status = 0; place = 0 }
+verdictIn (D.the-variants.Malformed place) = record { status = 1; place = place }
+verdictIn (D.the-variants.NoRoom place) = record { status = 2; place = place }
 
 -- a call before what is found of the rest
 abbrev pub before : Order → Findings → Findings

@@ -17,7 +17,8 @@ ghost use Rattle.scripts.specs.Scripts.{
   partRoom,
   sizeOf,
   roomOf,
-  verdictOf,
+  verdictIn,
+  found,
   checked,
 };
 
@@ -170,7 +171,7 @@ pub enum Verdict {
 
 // Checks a whole script against the room for its answers.
 pub fn check(script: &[u8], room: usize) -> Verdict
-    ensures { λ r. ⌜ r ≡ verdictOf (checked (now (script .entry)) room) ⌝ }
+    ensures { λ r. ⌜ verdictIn r ≡ found (checked (now (script .entry)) room) ⌝ }
 {
     let mut at: usize = 0;
     let mut left = room;

@@ -2,7 +2,7 @@
 // takes, and the image of the live page. The layout of what it prints is in docs/FORMATS.md.
 use loads::Input;
 use loads::Name;
-use pages::InImage;
+use pages::ImageOffset;
 use pages::Live;
 use pages::PageOffset;
 use pages::Side;
@@ -12,12 +12,14 @@ use walks::Begun;
 use walks::Walk;
 
 // ---- the pages and their line
-// The length of an image on pages of P bytes: the image offset of a page's end.
+// The length of an image on pages of P bytes, all its cells.
 fn image_size(page: u32) -> u32 {
-    match PageOffset(page).to_image() {
-        InImage::Management => 0,
-        InImage::At(end) => end.0,
-    }
+    plans::cell_count(page) * 2
+}
+
+// Where an image begins.
+fn image_start() -> PageOffset {
+    ImageOffset(0).to_page()
 }
 
 fn print_sizes(image: u32) {
@@ -104,7 +106,7 @@ fn print_cells(side: Side, place: u32, image: u32) {
 fn print_spot(spot: Spot, place: u32, image: u32) {
     match spot {
         Spot::Fixed(entry) => print_step(entry, place),
-        Spot::Cell(_, side, _, at) => {
+        Spot::Cell(_, side, at) => {
             if at.0 == 0 {
                 print_cells(side, place, image);
             }
@@ -139,8 +141,7 @@ fn print_image<'a>(live: Live, left: &'a [u8], right: &'a [u8], size: u32) {
             prints::text(b"the image of ");
             views::side(side);
             prints::text(b":\n");
-            let start = PageOffset(pages::MANAGEMENT_SIZE);
-            views::image(reads::read(left, right, start, size));
+            views::image(reads::read(left, right, image_start(), size));
         }
     }
 }
@@ -159,8 +160,7 @@ fn print_pages<'a>(walk: Walk, left: &'a [u8], right: &'a [u8]) {
 
 // Shows two pages whose lengths are right, so a save of nothing isn't refused.
 fn show<'a>(left_name: &[u8], left: &'a [u8], right_name: &[u8], right: &'a [u8]) {
-    let start = PageOffset(pages::MANAGEMENT_SIZE);
-    match Walk::save(left, right, start, b"") {
+    match Walk::save(left, right, image_start(), b"") {
         Begun::Refused(_) => {}
         Begun::On(walk) => {
             views::heading(left_name, right_name, walk.page as usize);

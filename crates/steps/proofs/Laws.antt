@@ -1,5 +1,5 @@
 -- Laws of flash steps.
--- In order: a cell of a page's later part; an image cell; a step by its kind and side.
+-- In order: a cell of a page's later part; an image cell; a step by its kind and side; a step that isn't made.
 -- Not here: programming a list of bytes (the crate flash); lists (lib.Seq). Assumes nothing.
 use Prim.Native.Nat.{ℕ, _+_, _-_, _%_, _<_, _≤_}
 use mathlib.Core.Path.{_≡_, refl, sym, ap, _∙_}
@@ -15,12 +15,13 @@ use borrow.Author.Tests.{ltb-true, ltb-false, lt-ltb, le-ltb}
 use borrow.Rule.Slice.PartMut.{midOf, putMid}
 use Rattle.flash.specs.Flash.{Outcome, isCell, cellAt, stored, fits, programmed, erasure}
 use Rattle.pages.specs.declared.Side.{Side}
+use Rattle.pages.specs.declared.Side.the-variants.{Left, Right}
 use Rattle.pages.specs.Pages.{onSide}
 use Rattle.pages.specs.declared.PageOffset.{PageOffset}
 use Rattle.pages.specs.declared.ImageOffset.{ImageOffset}
 use Rattle.steps.specs.declared.Step.{Step}
 use Rattle.steps.specs.declared.Step.the-variants.{Mark, Image, Erase}
-use Rattle.steps.specs.Steps.{Tried, marked, blanked, onPage, tried}
+use Rattle.steps.specs.Steps.{Tried, marked, imaged, blanked, onPage, tried}
 
 -- ---- a cell of a page's later part
 set-append-add : (xs ys : List ℕ) (n a : ℕ) → set (xs ++ ys) (length xs + n) a ≡ xs ++ set ys n a
@@ -90,16 +91,6 @@ part-programmed xs ys i v e =
     go false = refl
 
 -- ---- an image cell
--- a step on a cell of the image is that step on the page, 4 bytes on
-pub image-cell : (l : List ℕ) (i v : ℕ) → 4 ≤ length l
-    → programmed l (4 + i) v ≡ after (take 4 l) (programmed (drop 4 l) i v)
-image-cell l i v h =
-    let n : length (take 4 l) ≡ 4 = length-take-le 4 l h in
-    let e : length (take 4 l) % 2 ≡ 0 = omega arith in
-    ap (λ (k : List ℕ). programmed k (4 + i) v) (sym (take-append-drop 4 l))
-    ∙ ap (λ (k : ℕ). programmed (take 4 l ++ drop 4 l) (k + i) v) (sym n)
-    ∙ part-programmed (take 4 l) (drop 4 l) i v e
-
 -- the image lent from byte 4 on is all that comes after, and comes back to its place
 pub lent : (l : List ℕ) → midOf 4 (length l - 4) l ≡ drop 4 l
 lent l = take-all (length l - 4) (drop 4 l) (simp length-drop (omega arith))
@@ -110,21 +101,39 @@ put-back l ys =
     drop-of-length-le (drop 4 l) {i = length l - 4} (simp length-drop (omega arith)) in
     simp (d, append-nil)
 
-pub image-back : (l ys : List ℕ) (k i v : ℕ) → 4 ≤ length l
-    → _≡_ {A = Outcome} (record { number = k; bytes = ys }) (programmed (midOf 4 (length l - 4) l) i v)
-    → _≡_ {A = Outcome} (record { number = k; bytes = putMid 4 (length l - 4) l ys }) (programmed l (4 + i) v)
-image-back l ys k i v h e =
+pub image-back : (l ys : List ℕ) (k : ℕ) (at : ImageOffset) (v : ℕ)
+    → _≡_ {A = Outcome} (record { number = k; bytes = ys }) (programmed (midOf 4 (length l - 4) l) (at .0) v)
+    → _≡_ {A = Outcome} (record { number = k; bytes = putMid 4 (length l - 4) l ys }) (imaged l at v)
+image-back l ys k at v e =
     ap (λ (x : List ℕ). record { number = k; bytes = x }) (put-back l ys)
-    ∙ ap (λ (o : Outcome). after (take 4 l) o) (e ∙ ap (λ (x : List ℕ). programmed x i v) (lent l))
-    ∙ sym (image-cell l i v h)
+    ∙ ap (λ (o : Outcome). after (take 4 l) o) (e ∙ ap (λ (x : List ℕ). programmed x (at .0) v) (lent l))
 
 -- a page too short for management bytes has no image cell
-pub no-image : (l : List ℕ) (i v : ℕ) → length l < 4
-    → _≡_ {A = Outcome} (record { number = 6; bytes = l }) (programmed l (4 + i) v)
+no-cell : (i v : ℕ) → programmed [] i v ≡ (record { number = 6; bytes = [] })
 unfolding programmed fits isCell
-no-image l i v h =
-    let q : ltb (4 + i + 1) (length l) ≡ false = le-ltb (4 + i + 1) (length l) (omega arith) in
+no-cell i v =
+    let q : ltb (i + 1) 0 ≡ false = le-ltb (i + 1) 0 (omega arith) in
     simp (q, and-false)
+
+pub no-image : (l : List ℕ) (at : ImageOffset) (v : ℕ) → length l < 4
+    → _≡_ {A = Outcome} (record { number = 6; bytes = l }) (imaged l at v)
+no-image l at v h =
+    let none : drop 4 l ≡ [] = drop-of-length-le l {i = 4} (omega arith) in
+    let whole : l ≡ take 4 l ++ [] = sym (append-nil (take 4 l) ∙ take-all 4 l (omega arith)) in
+    _∙_ {b = after (take 4 l) (record { number = 6; bytes = [] })}
+    (ap (λ (x : List ℕ). record { number = 6; bytes = x }) whole)
+    (ap (λ (o : Outcome). after (take 4 l) o)
+    (sym (ap (λ (x : List ℕ). programmed x (at .0) v) none ∙ no-cell (at .0) v)))
+
+-- a step on a cell of the image is that step on the page, 4 bytes on
+pub imaged-at : (l : List ℕ) (at : ImageOffset) (v : ℕ) → 4 ≤ length l → imaged l at v ≡ programmed l (4 + at .0) v
+imaged-at l at v h =
+    let n : length (take 4 l) ≡ 4 = length-take-le 4 l h in
+    let e : length (take 4 l) % 2 ≡ 0 = omega arith in
+    sym
+    (ap (λ (k : List ℕ). programmed k (4 + at .0) v) (sym (take-append-drop 4 l))
+    ∙ ap (λ (k : ℕ). programmed (take 4 l ++ drop 4 l) (k + at .0) v) (sym n)
+    ∙ part-programmed (take 4 l) (drop 4 l) (at .0) v e)
 
 -- ---- a step by its kind and side
 pub blank : (l ys : List ℕ) → ys ≡ erasure l → _≡_ {A = Outcome} (record { number = 0; bytes = ys }) (blanked l)
@@ -150,3 +159,38 @@ pub erase-tried : (step : Step) (s : Side) (l r : List ℕ) (t : Tried) → step
     → t ≡ onPage s blanked l r → t ≡ tried step l r
 unfolding tried
 erase-tried step s l r t q e = e ∙ ap (λ (x : Step). tried x l r) (sym q)
+
+-- ---- a step "happens whole or not at all": one that isn't made is number 6, and both pages are as they were
+programmed-unfit : (l : List ℕ) (i v : ℕ) → (programmed l i v .number ≡ 0 → ⊥)
+    → programmed l i v ≡ (record { number = 6; bytes = l })
+unfolding programmed
+programmed-unfit l i v = go (fits l i v)
+  where
+    go : (t : Bool)
+        → (cond {A = Outcome} t (record { number = 0; bytes = stored l i (bitAnd (cellAt l i) v) })
+        (record { number = 6; bytes = l }) .number ≡ 0 → ⊥)
+        → cond {A = Outcome} t (record { number = 0; bytes = stored l i (bitAnd (cellAt l i) v) })
+        (record { number = 6; bytes = l })
+        ≡ (record { number = 6; bytes = l })
+    go true h = absurd (h refl)
+    go false h = refl
+
+imaged-unfit : (l : List ℕ) (at : ImageOffset) (v : ℕ) → (imaged l at v .number ≡ 0 → ⊥)
+    → imaged l at v ≡ (record { number = 6; bytes = l })
+imaged-unfit l at v h =
+    ap (λ (o : Outcome). after (take 4 l) o) (programmed-unfit (drop 4 l) (at .0) v h)
+    ∙ ap (λ (x : List ℕ). record { number = 6; bytes = x }) (take-append-drop 4 l)
+
+page-unfit : (s : Side) (f : List ℕ → Outcome) (l r : List ℕ) → (onPage s f l r .number ≡ 0 → ⊥)
+    → ((page : List ℕ) → (f page .number ≡ 0 → ⊥) → f page ≡ (record { number = 6; bytes = page }))
+    → onPage s f l r ≡ (record { number = 6; left = l; right = r })
+page-unfit Left f l r h g = ap (λ (o : Outcome). record { number = o .number; left = o .bytes; right = r }) (g l h)
+page-unfit Right f l r h g = ap (λ (o : Outcome). record { number = o .number; left = l; right = o .bytes }) (g r h)
+
+pub tried-unfit : (x : Step) (l r : List ℕ) → (tried x l r .number ≡ 0 → ⊥)
+    → tried x l r ≡ (record { number = 6; left = l; right = r })
+unfolding tried
+tried-unfit (Mark s at v) l r h =
+    page-unfit s (λ page. marked page at v) l r h (λ page k. programmed-unfit page (at .0) v k)
+tried-unfit (Image s at v) l r h = page-unfit s (λ page. imaged page at v) l r h (λ page k. imaged-unfit page at v k)
+tried-unfit (Erase s) l r h = absurd (h refl)

@@ -2,13 +2,14 @@
 -- In order: a step on one page; the pages after a step on a side; a step.
 -- Not here: programming and erasing the bytes of a page (the crate flash). Laws: proofs/Laws.antt.
 -- Assumes nothing.
-use Prim.Native.Nat.{ℕ, _+_}
-use mathlib.Core.List.{List}
+use Prim.Native.Nat.{ℕ}
+use mathlib.Core.List.{List, _++_}
 use Rattle.flash.specs.Flash.{Outcome, programmed, erasure}
 use Rattle.pages.specs.declared.Side.{Side}
 use Rattle.pages.specs.declared.PageOffset.{PageOffset}
 use Rattle.pages.specs.declared.ImageOffset.{ImageOffset}
 use Rattle.pages.specs.Pages.{onSide}
+use Rattle.pages.specs.Offsets.{managementOf, imageOf}
 use Rattle.steps.specs.declared.Step.{Step}
 use Rattle.steps.specs.declared.Step.the-variants.{Mark, Image, Erase}
 
@@ -16,9 +17,11 @@ use Rattle.steps.specs.declared.Step.the-variants.{Mark, Image, Erase}
 abbrev pub marked : List ℕ → PageOffset → ℕ → Outcome
 marked page at v = programmed page (at .0) v
 
--- a cell of its image: "Work inside the image counts from byte 4"
+-- a cell of its image, which alone is written: "Work inside the image counts from byte 4"
 abbrev pub imaged : List ℕ → ImageOffset → ℕ → Outcome
-imaged page at v = programmed page (4 + at .0) v
+imaged page at v =
+    let o = programmed (imageOf page) (at .0) v in
+    record { number = o .number; bytes = managementOf page ++ o .bytes }
 
 -- "Blank a page"
 abbrev pub blanked : List ℕ → Outcome

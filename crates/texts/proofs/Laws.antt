@@ -1,7 +1,7 @@
 -- Laws of scripts as text.
--- In order: the bytes before one; lines; words; digits and numbers; bytes; the call of a line.
+-- In order: the bytes before one; lines; words; digits and numbers; bytes.
 -- Assumes nothing.
-use Prim.Native.Nat.{ℕ, zero, suc, _+_, _-_, _*_, _%_, _/_, _<_, _≤_}
+use Prim.Native.Nat.{ℕ, zero, suc, _+_, _-_, _*_, _/_, _<_, _≤_}
 use mathlib.Core.Path.{_≡_, refl, sym, ap, _∙_}
 use mathlib.Core.Bool.{Bool, true, false, cond, not, _&&_, Bool·beq, and-false}
 use mathlib.Core.List.{List, [], _∷_, _++_}
@@ -14,19 +14,7 @@ use borrow.Author.Tests.{eq-eqb, ne-eqb, lt-ltb, le-ltb, le-leb, lt-leb, eqb-tru
 use borrow.Rule.Slice.PartMut.{midOf}
 use Rattle.texts.specs.declared.Number.{Number}
 use Rattle.texts.specs.declared.Number.the-variants as N
-use Rattle.texts.specs.declared.Call.{Call}
-use Rattle.texts.specs.declared.Call.the-variants as C
-use Rattle.texts.specs.declared.Fault.{Fault}
-use Rattle.texts.specs.declared.Fault.the-variants.{
-  UnknownWord,
-  NoNumber,
-  NotNumber,
-  PastBits,
-  OddDigits,
-  NotHex,
-  TooLong,
-  ExtraWord,
-}
+use Rattle.texts.specs.declared.Fault.the-variants.{NoNumber, NotNumber, PastBits}
 use Rattle.texts.specs.Texts.{
   beforeFirst,
   upTo,
@@ -52,28 +40,7 @@ use Rattle.texts.specs.Texts.{
   bytesOf,
   Decoded,
   decoded,
-  isEmpty,
   same,
-  saveWord,
-  formatWord,
-  stepWord,
-  readWord,
-  copyWord,
-  cutWord,
-  withWord,
-  allWord,
-  endedBy,
-  withDigits,
-  withBytes,
-  byNumber,
-  saveOf,
-  stepsOf,
-  stepOf,
-  partCall,
-  partOf,
-  otherOf,
-  namedOf,
-  callOf,
 }
 
 -- ---- the bytes before one that passes a test
@@ -311,6 +278,34 @@ word-end s w start end counter number h e k =
     ∙ k
 
 -- ---- digits and numbers
+-- two words are the same
+same-self : (a : List ℕ) → same a a ≡ true
+unfolding same
+same-self [] = refl
+same-self (x ∷ xs) = simp (eq-eqb x x refl, same-self xs)
+
+same-true : (a b : List ℕ) → same a b ≡ true → a ≡ b
+unfolding same
+same-true [] [] h = refl
+same-true [] (y ∷ ys) h = let z : _≡_ {A = ℕ} 0 1 = cc in absurd (omega arith)
+same-true (x ∷ xs) [] h = let z : _≡_ {A = ℕ} 0 1 = cc in absurd (omega arith)
+same-true (x ∷ xs) (y ∷ ys) h = go (eqb x y) refl h (same-true xs ys)
+  where
+    go : (t : Bool) → eqb x y ≡ t → (t && same xs ys) ≡ true → (same xs ys ≡ true → xs ≡ ys) → x ∷ xs ≡ y ∷ ys
+    go true e k f = (λ i. eqb-true x y e i ∷ f k i)
+    go false e k f = let z : _≡_ {A = ℕ} 0 1 = cc in absurd (omega arith)
+
+pub same-is : (a b : List ℕ) (r t : Bool) → (r ≡ true → a ≡ b) × (a ≡ b → r ≡ true) → r ≡ t → same a b ≡ t
+same-is a b r true h e = ap (same a) (sym (h .0 e)) ∙ same-self a
+same-is a b r false h e = go (same a b) refl
+  where
+    go : (u : Bool) → same a b ≡ u → u ≡ false
+    go true k =
+        let w : r ≡ true = h .1 (same-true a b k) in
+        let z : _≡_ {A = ℕ} 0 1 = cc in
+        absurd (omega arith)
+    go false k = refl
+
 within-yes : (low high b : ℕ) → low ≤ b → b ≤ high → within low high b ≡ true
 within-yes low high b h k = simp (le-leb low b h, le-leb b high k)
 
@@ -433,7 +428,7 @@ unfolding allHex
 hex-all s i r h f = sym (ap allHex (drop-of-length-le s h)) ∙ f
 
 -- ---- bytes
-bytes-length : (s : List ℕ) → length (bytesOf s) ≡ length s / 2
+pub bytes-length : (s : List ℕ) → length (bytesOf s) ≡ length s / 2
 unfolding bytesOf
 bytes-length [] = omega arith
 bytes-length (high ∷ []) = omega arith
@@ -452,10 +447,10 @@ bytes-at (high ∷ (low ∷ s)) (suc i) h =
     (λ j. joinedOf (digitOf (getD t (a j) 0)) (digitOf (getD t (b j) 0))) ∙ bytes-at s i (omega arith)
 
 -- a byte more is put
-pub put-on : (s d now : List ℕ) (i count x y v : ℕ) → i < count → count ≡ length s / 2 → count ≤ length d
+pub put-on : (s d current : List ℕ) (i count x y v : ℕ) → i < count → count ≡ length s / 2 → count ≤ length d
     → x ≡ digitOf (getD s (i * 2) 0) → y ≡ digitOf (getD s (i * 2 + 1) 0) → v ≡ joinedOf x y
-    → now ≡ take i (bytesOf s) ++ drop i d → set now i v ≡ take (i + 1) (bytesOf s) ++ drop (i + 1) d
-put-on s d now i count x y v h n k ex ey ev e =
+    → current ≡ take i (bytesOf s) ++ drop i d → set current i v ≡ take (i + 1) (bytesOf s) ++ drop (i + 1) d
+put-on s d current i count x y v h n k ex ey ev e =
     let b : List ℕ = bytesOf s in
     let m : length (bytesOf s) ≡ length s / 2 = bytes-length s in
     let f : v ≡ getD (bytesOf s) i 0 = ev ∙ (λ j. joinedOf (ex j) (ey j)) ∙ bytes-at s i (omega arith) in
@@ -466,14 +461,15 @@ put-on s d now i count x y v h n k ex ey ev e =
     ∙ ap (λ (t : List ℕ). t ++ drop (i + 1) d)
     (sym (take-suc b i 0 (omega arith)) ∙ ap (λ (n : ℕ). take n b) (sym (add-one i)))
 
-pub put-all : (s d now : List ℕ) (i count : ℕ) → i ≤ count → count ≤ i → count ≡ length s / 2 → count ≤ length d
-    → now ≡ take i (bytesOf s) ++ drop i d → _≡_ {A = Decoded} (record { count = count; buffer = now }) (decoded s d)
+pub put-all : (s d current : List ℕ) (i count : ℕ) → i ≤ count → count ≤ i → count ≡ length s / 2 → count ≤ length d
+    → current ≡ take i (bytesOf s) ++ drop i d → _≡_ {A = Decoded} (record { count = count; buffer = current })
+    (decoded s d)
 unfolding decoded
-put-all s d now i count h g n k e =
+put-all s d current i count h g n k e =
     let b : List ℕ = bytesOf s in
     let m : count ≡ length (bytesOf s) = n ∙ sym (bytes-length s) in
     let at : i ≡ length (bytesOf s) = omega arith in
-    let f : now ≡ bytesOf s ++ drop (length (bytesOf s)) d =
+    let f : current ≡ bytesOf s ++ drop (length (bytesOf s)) d =
     e ∙ ap (λ (n : ℕ). take n b ++ drop n d) at ∙ ap (λ (t : List ℕ). t ++ drop (length b) d) (take-length b) in
     (λ j. record { count = m j; buffer = f j })
     ∙ sym
@@ -491,247 +487,3 @@ put-none s d h =
     (ap (λ (t : Bool). cond t
     (record { count = length b; buffer = b ++ drop (length b) d }) (record { count = 0; buffer = d }))
     (lt-leb (length b) (length d) (omega arith)))
-
--- ---- the call of a line
-pub part-copy : (copy : Bool) (offset size : ℕ) → copy ≡ true → C.Copy offset size ≡ partCall copy offset size
-part-copy copy offset size e = sym (ap (λ (t : Bool). partCall t offset size) e)
-
-pub part-read : (copy : Bool) (offset size : ℕ) → copy ≡ false → C.Read offset size ≡ partCall copy offset size
-part-read copy offset size e = sym (ap (λ (t : Bool). partCall t offset size) e)
-
--- two words are the same
-same-self : (a : List ℕ) → same a a ≡ true
-unfolding same
-same-self [] = refl
-same-self (x ∷ xs) = simp (eq-eqb x x refl, same-self xs)
-
-same-true : (a b : List ℕ) → same a b ≡ true → a ≡ b
-unfolding same
-same-true [] [] h = refl
-same-true [] (y ∷ ys) h = let z : _≡_ {A = ℕ} 0 1 = cc in absurd (omega arith)
-same-true (x ∷ xs) [] h = let z : _≡_ {A = ℕ} 0 1 = cc in absurd (omega arith)
-same-true (x ∷ xs) (y ∷ ys) h = go (eqb x y) refl h (same-true xs ys)
-  where
-    go : (t : Bool) → eqb x y ≡ t → (t && same xs ys) ≡ true → (same xs ys ≡ true → xs ≡ ys) → x ∷ xs ≡ y ∷ ys
-    go true e k f = (λ i. eqb-true x y e i ∷ f k i)
-    go false e k f = let z : _≡_ {A = ℕ} 0 1 = cc in absurd (omega arith)
-
-pub same-is : (a b : List ℕ) (r t : Bool) → (r ≡ true → a ≡ b) × (a ≡ b → r ≡ true) → r ≡ t → same a b ≡ t
-same-is a b r true h e = ap (same a) (sym (h .0 e)) ∙ same-self a
-same-is a b r false h e = go (same a b) refl
-  where
-    go : (u : Bool) → same a b ≡ u → u ≡ false
-    go true k =
-        let w : r ≡ true = h .1 (same-true a b k) in
-        let z : _≡_ {A = ℕ} 0 1 = cc in
-        absurd (omega arith)
-    go false k = refl
-
--- no word too many
-pub ended-yes : (line w : List ℕ) (n : ℕ) (call : Call) → w ≡ wordAt n line → length w ≡ 0 → call ≡ endedBy n line call
-unfolding endedBy
-ended-yes line w n call e h =
-    sym
-    (ap (λ (t : List ℕ). cond (isEmpty t) call (C.Wrong ExtraWord n)) (sym e)
-    ∙ ap (λ (t : Bool). cond t call (C.Wrong ExtraWord n)) (eq-eqb (length w) 0 h))
-
-pub ended-no : (line w : List ℕ) (n : ℕ) (call : Call) → w ≡ wordAt n line → (length w ≡ 0 → ⊥)
-    → C.Wrong ExtraWord n ≡ endedBy n line call
-unfolding endedBy
-ended-no line w n call e h =
-    sym
-    (ap (λ (t : List ℕ). cond (isEmpty t) call (C.Wrong ExtraWord n)) (sym e)
-    ∙ ap (λ (t : Bool). cond t call (C.Wrong ExtraWord n)) (ne-eqb (length w) 0 h))
-
--- a call with bytes
-module _ (line digits : List ℕ) (call : Call) (r : Bool) (e : digits ≡ wordAt 2 line) (h : r ≡ allHex digits) where
-  on-digits : withDigits digits line call ≡ withBytes line call
-  unfolding withBytes
-  on-digits = ap (λ (t : List ℕ). withDigits t line call) e
-
-  pub bytes-bad : not r ≡ true → C.Wrong NotHex 2 ≡ withBytes line call
-  unfolding withDigits
-  bytes-bad k =
-      let f : C.Wrong NotHex 2 ≡ withDigits digits line call = simp (sym h ∙ not-true r k) in
-      f ∙ on-digits
-
-  pub bytes-odd : not r ≡ false → (length digits % 2 ≡ 0 → ⊥) → C.Wrong OddDigits 2 ≡ withBytes line call
-  unfolding withDigits
-  bytes-odd k odd =
-      let f : C.Wrong OddDigits 2 ≡ withDigits digits line call =
-      simp (sym h ∙ not-false r k, ne-eqb (length digits % 2) 0 odd) in
-      f ∙ on-digits
-
-  pub bytes-long : not r ≡ false → length digits % 2 ≡ 0 → 8192 < length digits
-      → C.Wrong TooLong 2 ≡ withBytes line call
-  unfolding withDigits
-  bytes-long k even long =
-      let f : C.Wrong TooLong 2 ≡ withDigits digits line call =
-      simp (sym h ∙ not-false r k, eq-eqb (length digits % 2) 0 even, lt-leb (length digits) 8192 long) in
-      f ∙ on-digits
-
-  pub bytes-good : (z : Call) → not r ≡ false → length digits % 2 ≡ 0 → length digits ≤ 8192 → z ≡ endedBy 3 line call
-      → z ≡ withBytes line call
-  unfolding withDigits
-  bytes-good z k even fits ez =
-      let f : endedBy 3 line call ≡ withDigits digits line call =
-      simp (sym h ∙ not-false r k, eq-eqb (length digits % 2) 0 even, le-leb (length digits) 8192 fits) in
-      ez ∙ f ∙ on-digits
-
--- the number of a word
-pub number-told : (line w : List ℕ) (n m : Number) (place : ℕ) → w ≡ wordAt place line → n ≡ numberOf w → n ≡ m
-    → m ≡ numberOf (wordAt place line)
-number-told line w n m place e h k = sym k ∙ h ∙ ap numberOf e
-
-pub save-bad : (line : List ℕ) (fault : Fault) → N.Wrong fault ≡ numberOf (wordAt 1 line)
-    → C.Wrong fault 1 ≡ saveOf line
-unfolding saveOf
-save-bad line fault e = ap (λ (n : Number). byNumber n 1 (λ (offset : ℕ). withBytes line (C.Save offset))) e
-
-pub save-good : (line : List ℕ) (offset : ℕ) (z : Call) → N.Value offset ≡ numberOf (wordAt 1 line)
-    → z ≡ withBytes line (C.Save offset) → z ≡ saveOf line
-unfolding saveOf
-save-good line offset z e h =
-    h ∙ ap (λ (n : Number). byNumber n 1 (λ (offset : ℕ). withBytes line (C.Save offset))) e
-
--- a read or a copy
-abbrev partBy : Number → Number → Bool → ℕ → List ℕ → Call
-partBy a b copy most line =
-    byNumber a 1 (λ offset.
-    byNumber b 2 (λ size.
-    cond (leb size most) (endedBy 3 line (partCall copy offset size)) (C.Wrong TooLong 2)))
-
-module _ (copy : Bool) (most : ℕ) (line : List ℕ) where
-  pub part-bad : (fault : Fault) → N.Wrong fault ≡ numberOf (wordAt 1 line) → C.Wrong fault 1 ≡ partOf copy most line
-  unfolding partOf
-  part-bad fault e = ap (λ (n : Number). partBy n (numberOf (wordAt 2 line)) copy most line) e
-
-  pub part-bad-2 : (offset : ℕ) (fault : Fault) → N.Value offset ≡ numberOf (wordAt 1 line)
-      → N.Wrong fault ≡ numberOf (wordAt 2 line) → C.Wrong fault 2 ≡ partOf copy most line
-  unfolding partOf
-  part-bad-2 offset fault e h = λ i. partBy (e i) (h i) copy most line
-
-  part-told : (offset size : ℕ) → N.Value offset ≡ numberOf (wordAt 1 line) → N.Value size ≡ numberOf (wordAt 2 line)
-      → cond (leb size most) (endedBy 3 line (partCall copy offset size)) (C.Wrong TooLong 2) ≡ partOf copy most line
-  unfolding partOf
-  part-told offset size e h = λ i. partBy (e i) (h i) copy most line
-
-  pub part-long : (offset size : ℕ) → N.Value offset ≡ numberOf (wordAt 1 line)
-      → N.Value size ≡ numberOf (wordAt 2 line) → most < size → C.Wrong TooLong 2 ≡ partOf copy most line
-  part-long offset size e h k =
-      sym
-      (ap (λ (t : Bool). cond t (endedBy 3 line (partCall copy offset size)) (C.Wrong TooLong 2)) (lt-leb size most k))
-      ∙ part-told offset size e h
-
-  pub part-good : (offset size : ℕ) (call z : Call) → N.Value offset ≡ numberOf (wordAt 1 line)
-      → N.Value size ≡ numberOf (wordAt 2 line) → size ≤ most → call ≡ partCall copy offset size
-      → z ≡ endedBy 3 line call → z ≡ partOf copy most line
-  part-good offset size call z e h k ec ez =
-      ez
-      ∙ ap (endedBy 3 line) ec
-      ∙ sym
-      (ap (λ (t : Bool). cond t (endedBy 3 line (partCall copy offset size)) (C.Wrong TooLong 2)) (le-leb size most k))
-      ∙ part-told offset size e h
-
--- steps
-module _ (line count : List ℕ) (ew : count ≡ wordAt 1 line) where
-  on-count : stepsOf count line ≡ stepOf line
-  unfolding stepOf
-  on-count = ap (λ (t : List ℕ). stepsOf t line) ew
-
-  pub step-one : length count ≡ 0 → C.Step 1 false ≡ stepOf line
-  unfolding stepsOf
-  step-one h = let f : C.Step 1 false ≡ stepsOf count line = simp (eq-eqb (length count) 0 h) in f ∙ on-count
-
-  pub step-with : (z : Call) → (length count ≡ 0 → ⊥) → same count withWord ≡ true
-      → z ≡ withBytes line (C.Step 1 true) → z ≡ stepOf line
-  unfolding stepsOf
-  step-with z h k e =
-      let f : withBytes line (C.Step 1 true) ≡ stepsOf count line = simp (ne-eqb (length count) 0 h, k) in
-      e ∙ f ∙ on-count
-
-  pub step-all : (z : Call) → (length count ≡ 0 → ⊥) → same count withWord ≡ false → same count allWord ≡ true
-      → z ≡ endedBy 2 line (C.Step 4294967295 false) → z ≡ stepOf line
-  unfolding stepsOf
-  step-all z h k j e =
-      let f : endedBy 2 line (C.Step 4294967295 false) ≡ stepsOf count line = simp (ne-eqb (length count) 0 h, k, j) in
-      e ∙ f ∙ on-count
-
-  step-number : (length count ≡ 0 → ⊥) → same count withWord ≡ false → same count allWord ≡ false
-      → byNumber (numberOf count) 1 (λ steps. endedBy 2 line (C.Step steps false)) ≡ stepOf line
-  unfolding stepsOf
-  step-number h k j =
-      let f : byNumber (numberOf count) 1 (λ steps. endedBy 2 line (C.Step steps false)) ≡ stepsOf count line =
-      simp (ne-eqb (length count) 0 h, k, j) in
-      f ∙ on-count
-
-  pub step-bad : (n : Number) (fault : Fault) → (length count ≡ 0 → ⊥) → same count withWord ≡ false
-      → same count allWord ≡ false → n ≡ numberOf count → n ≡ N.Wrong fault → C.Wrong fault 1 ≡ stepOf line
-  step-bad n fault h k j e f =
-      ap (λ (m : Number). byNumber m 1 (λ (steps : ℕ). endedBy 2 line (C.Step steps false))) (sym f ∙ e)
-      ∙ step-number h k j
-
-  pub step-times : (n : Number) (steps : ℕ) (z : Call) → (length count ≡ 0 → ⊥) → same count withWord ≡ false
-      → same count allWord ≡ false → n ≡ numberOf count → n ≡ N.Value steps → z ≡ endedBy 2 line (C.Step steps false)
-      → z ≡ stepOf line
-  step-times n steps z h k j e f ez =
-      ez
-      ∙ ap (λ (m : Number). byNumber m 1 (λ (steps : ℕ). endedBy 2 line (C.Step steps false))) (sym f ∙ e)
-      ∙ step-number h k j
-
--- the call by its name
-module _ (name line : List ℕ) (z : Call) where
-  pub other-read : same name readWord ≡ true → z ≡ partOf false 4294967295 line → z ≡ otherOf name line
-  unfolding otherOf
-  other-read h e = e ∙ simp h
-
-  pub other-copy : same name readWord ≡ false → same name copyWord ≡ true → z ≡ partOf true 4096 line
-      → z ≡ otherOf name line
-  unfolding otherOf
-  other-copy h k e = e ∙ simp (h, k)
-
-  pub other-cut : same name readWord ≡ false → same name copyWord ≡ false → same name cutWord ≡ true
-      → z ≡ endedBy 1 line C.Cut → z ≡ otherOf name line
-  unfolding otherOf
-  other-cut h k j e = e ∙ simp (h, k, j)
-
-pub other-none : (name line : List ℕ) → same name readWord ≡ false → same name copyWord ≡ false
-    → same name cutWord ≡ false → C.Wrong UnknownWord 0 ≡ otherOf name line
-unfolding otherOf
-other-none name line h k j = simp (h, k, j)
-
-module _ (line name : List ℕ) (ew : name ≡ wordAt 0 line) where
-  on-name : namedOf name line ≡ callOf line
-  unfolding callOf
-  on-name = ap (λ (t : List ℕ). namedOf t line) ew
-
-  pub call-none : length name ≡ 0 → C.Nothing ≡ callOf line
-  unfolding namedOf
-  call-none h = let f : C.Nothing ≡ namedOf name line = simp (eq-eqb (length name) 0 h) in f ∙ on-name
-
-  pub call-save : (z : Call) → (length name ≡ 0 → ⊥) → same name saveWord ≡ true → z ≡ saveOf line → z ≡ callOf line
-  unfolding namedOf
-  call-save z h k e =
-      let f : saveOf line ≡ namedOf name line = simp (ne-eqb (length name) 0 h, k) in
-      e ∙ f ∙ on-name
-
-  pub call-format : (z : Call) → (length name ≡ 0 → ⊥) → same name saveWord ≡ false → same name formatWord ≡ true
-      → z ≡ endedBy 1 line C.Format → z ≡ callOf line
-  unfolding namedOf
-  call-format z h k j e =
-      let f : endedBy 1 line C.Format ≡ namedOf name line = simp (ne-eqb (length name) 0 h, k, j) in
-      e ∙ f ∙ on-name
-
-  pub call-step : (z : Call) → (length name ≡ 0 → ⊥) → same name saveWord ≡ false → same name formatWord ≡ false
-      → same name stepWord ≡ true → z ≡ stepOf line → z ≡ callOf line
-  unfolding namedOf
-  call-step z h k j l e =
-      let f : stepOf line ≡ namedOf name line = simp (ne-eqb (length name) 0 h, k, j, l) in
-      e ∙ f ∙ on-name
-
-  pub call-other : (z : Call) → (length name ≡ 0 → ⊥) → same name saveWord ≡ false → same name formatWord ≡ false
-      → same name stepWord ≡ false → z ≡ otherOf name line → z ≡ callOf line
-  unfolding namedOf
-  call-other z h k j l e =
-      let f : otherOf name line ≡ namedOf name line = simp (ne-eqb (length name) 0 h, k, j, l) in
-      e ∙ f ∙ on-name

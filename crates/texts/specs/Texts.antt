@@ -1,26 +1,15 @@
 -- A script as text (docs/FORMATS.md, "replay"): texts, lines and words are lists of bytes.
--- In order: lines; words; digits and numbers; the call of a line.
--- Not here: making the calls (the crates boards and replay). Laws: proofs/Laws.antt.
+-- In order: lines; words; digits and numbers.
+-- Not here: what a line asks for (the crate asks). Laws: proofs/Laws.antt.
 -- Assumes nothing.
 use Prim.Native.Nat.{ℕ, zero, suc, _+_, _-_, _*_, _%_}
 use mathlib.Core.Bool.{Bool, true, false, cond, not, _&&_, _||_}
 use mathlib.Core.List.{List, [], _∷_, _++_}
 use lib.Dec.{eqb, ltb, leb}
 use lib.ListN.{length, getD, take, drop}
-use Rattle.texts.specs.declared.Fault.the-variants.{
-  UnknownWord,
-  NoNumber,
-  NotNumber,
-  PastBits,
-  OddDigits,
-  NotHex,
-  TooLong,
-  ExtraWord,
-}
+use Rattle.texts.specs.declared.Fault.the-variants.{NoNumber, NotNumber, PastBits}
 use Rattle.texts.specs.declared.Number.{Number}
 use Rattle.texts.specs.declared.Number as N
-use Rattle.texts.specs.declared.Call.{Call}
-use Rattle.texts.specs.declared.Call as C
 
 -- ---- lines
 -- how many bytes stand before the first that passes a test, or in all where none does
@@ -90,6 +79,13 @@ unfoldable pub wordAt : ℕ → List ℕ → List ℕ
 wordAt zero s = upTo (ending false) s
 wordAt (suc n) s = wordAt n (drop (strideOf s) s)
 
+-- two words are the same
+unfoldable pub same : List ℕ → List ℕ → Bool
+same [] [] = true
+same [] (y ∷ ys) = false
+same (x ∷ xs) [] = false
+same (x ∷ xs) (y ∷ ys) = eqb x y && same xs ys
+
 -- ---- digits and numbers
 abbrev pub within : ℕ → ℕ → ℕ → Bool
 within low high b = leb low b && leb b high
@@ -139,112 +135,3 @@ decoded digits buffer =
     cond (leb (length bytes) (length buffer))
     (record { count = length bytes; buffer = bytes ++ drop (length bytes) buffer })
     (record { count = 0; buffer = buffer })
-
--- ---- the call of a line
-abbrev pub isEmpty : List ℕ → Bool
-isEmpty s = eqb (length s) 0
-
-unfoldable pub same : List ℕ → List ℕ → Bool
-same [] [] = true
-same [] (y ∷ ys) = false
-same (x ∷ xs) [] = false
-same (x ∷ xs) (y ∷ ys) = eqb x y && same xs ys
-
--- the words that a line may have, as they are spelled
-abbrev pub saveWord : List ℕ
-saveWord = 115 ∷ (97 ∷ (118 ∷ (101 ∷ [])))
-
-abbrev pub formatWord : List ℕ
-formatWord = 102 ∷ (111 ∷ (114 ∷ (109 ∷ (97 ∷ (116 ∷ [])))))
-
-abbrev pub stepWord : List ℕ
-stepWord = 115 ∷ (116 ∷ (101 ∷ (112 ∷ [])))
-
-abbrev pub readWord : List ℕ
-readWord = 114 ∷ (101 ∷ (97 ∷ (100 ∷ [])))
-
-abbrev pub copyWord : List ℕ
-copyWord = 99 ∷ (111 ∷ (112 ∷ (121 ∷ [])))
-
-abbrev pub cutWord : List ℕ
-cutWord = 99 ∷ (117 ∷ (116 ∷ []))
-
-abbrev pub withWord : List ℕ
-withWord = 119 ∷ (105 ∷ (116 ∷ (104 ∷ [])))
-
-abbrev pub allWord : List ℕ
-allWord = 97 ∷ (108 ∷ (108 ∷ []))
-
--- a call of a line that has no word of a number, which would be one too many
-unfoldable pub endedBy : ℕ → List ℕ → Call → Call
-endedBy n line call = cond (isEmpty (wordAt n line)) call (C.the-variants.Wrong ExtraWord n)
-
--- a call with bytes, "two hexadecimal digits a byte, at most 4,096": word 2 has them, the last
-unfoldable pub withDigits : List ℕ → List ℕ → Call → Call
-withDigits digits line call =
-    cond (allHex digits)
-    (cond (eqb (length digits % 2) 0)
-    (cond (leb (length digits) 8192)
-    (endedBy 3 line call)
-    (C.the-variants.Wrong TooLong 2))
-    (C.the-variants.Wrong OddDigits 2))
-    (C.the-variants.Wrong NotHex 2)
-
-unfoldable pub withBytes : List ℕ → Call → Call
-withBytes line call = withDigits (wordAt 2 line) line call
-
--- what a line asks for by the number that is a word of it, or the fault of that word
-abbrev pub byNumber : Number → ℕ → (ℕ → Call) → Call
-byNumber (N.the-variants.Value value) n call = call value
-byNumber (N.the-variants.Wrong fault) n call = C.the-variants.Wrong fault n
-
-abbrev pub withNumber : ℕ → List ℕ → (ℕ → Call) → Call
-withNumber n line call = byNumber (numberOf (wordAt n line)) n call
-
--- `save OFFSET HEX`
-unfoldable pub saveOf : List ℕ → Call
-saveOf line = withNumber 1 line (λ offset. withBytes line (C.the-variants.Save offset))
-
--- `step`, `step with HEX`, `step all` and `step N`, by word 1
-unfoldable pub stepsOf : List ℕ → List ℕ → Call
-stepsOf count line =
-    cond (isEmpty count) (C.the-variants.Step 1 false)
-    (cond (same count withWord) (withBytes line (C.the-variants.Step 1 true))
-    (cond (same count allWord) (endedBy 2 line (C.the-variants.Step 4294967295 false))
-    (byNumber (numberOf count) 1 (λ steps. endedBy 2 line (C.the-variants.Step steps false)))))
-
-unfoldable pub stepOf : List ℕ → Call
-stepOf line = stepsOf (wordAt 1 line) line
-
--- `read OFFSET LENGTH` and `copy OFFSET LENGTH`, with the most that LENGTH may be
-abbrev pub partCall : Bool → ℕ → ℕ → Call
-partCall false offset size = C.the-variants.Read offset size
-partCall true offset size = C.the-variants.Copy offset size
-
-unfoldable pub partOf : Bool → ℕ → List ℕ → Call
-partOf copy most line =
-    withNumber 1 line (λ offset.
-    withNumber 2 line (λ size.
-    cond (leb size most)
-    (endedBy 3 line (partCall copy offset size))
-    (C.the-variants.Wrong TooLong 2)))
-
--- the call of a line by its name, word 0
-unfoldable pub otherOf : List ℕ → List ℕ → Call
-otherOf name line =
-    cond (same name readWord) (partOf false 4294967295 line)
-    (cond (same name copyWord) (partOf true 4096 line)
-    (cond (same name cutWord) (endedBy 1 line C.the-variants.Cut)
-    (C.the-variants.Wrong UnknownWord 0)))
-
-unfoldable pub namedOf : List ℕ → List ℕ → Call
-namedOf name line =
-    cond (isEmpty name) C.the-variants.Nothing
-    (cond (same name saveWord) (saveOf line)
-    (cond (same name formatWord) (endedBy 1 line C.the-variants.Format)
-    (cond (same name stepWord) (stepOf line)
-    (otherOf name line))))
-
--- the call of a line that begins with its first word, or the first fault from the left
-unfoldable pub callOf : List ℕ → Call
-callOf line = namedOf (wordAt 0 line) line

@@ -1,5 +1,5 @@
-// A script as text: its lines, the words of a line, and the call that a line asks for. The layout
-// is in docs/FORMATS.md, its definitions in specs/Texts.antt.
+// A script as text: its lines, the words of a line, and words as numbers and as bytes. The layout is
+// in docs/FORMATS.md, its definitions in specs/Texts.antt. What a line asks for is in the crate asks.
 //
 // A word is named by its number in its line, from 0. A line or a word that isn't there is empty, so
 // any text, place and number may be asked about.
@@ -25,21 +25,7 @@ ghost use Rattle.texts.specs.Texts.{
   joinedOf,
   Decoded,
   decoded,
-  endedBy,
-  withBytes,
-  saveOf,
-  stepOf,
-  partCall,
-  partOf,
-  otherOf,
-  callOf,
 };
-
-// The most bytes that a call hands over, or asks to be copied.
-const MAX_BYTES: u32 = 4096;
-
-// The largest number, and as a number of steps more than any walk has.
-const MAX_NUMBER: u32 = 4294967295;
 
 // The least number past 32 bits.
 const PAST_BITS: u64 = 4294967296;
@@ -54,20 +40,6 @@ pub enum Fault {
     NotHex,
     TooLong,
     ExtraWord,
-}
-
-// The call of a line: a save with its page offset, a format, a number of steps and whether they are
-// with bytes of the line, a read or a copy with page offset and length, a cut, or none. The bytes
-// are the digits of word 2. Of a wrong line, the fault and the number of the word that has it.
-pub enum Call {
-    Nothing,
-    Save(u32),
-    Format,
-    Step(u32, bool),
-    Read(u32, u32),
-    Copy(u32, u32),
-    Cut,
-    Wrong(Fault, usize),
 }
 
 // ---- lines
@@ -208,7 +180,7 @@ fn digit(byte: u8) -> u8
 }
 
 // A decimal number as it is found, or what is wrong with it.
-enum Number {
+pub enum Number {
     Value(u32),
     Wrong(Fault),
 }
@@ -224,7 +196,8 @@ fn appended(value: u64, digit: u8) -> u64
     if next < PAST_BITS { next } else { PAST_BITS }
 }
 
-fn parse_number(word: &[u8]) -> Number
+// The decimal number that a word is.
+pub fn parse_number(word: &[u8]) -> Number
     ensures { λ r. ⌜ r ≡ numberOf (now (word .entry)) ⌝ }
 {
     if word.len() == 0 {
@@ -244,7 +217,8 @@ fn parse_number(word: &[u8]) -> Number
     Number::Wrong(Fault::PastBits)
 }
 
-fn is_hex(word: &[u8]) -> bool
+// Whether a word has no bytes but hexadecimal digits.
+pub fn is_hex(word: &[u8]) -> bool
     ensures { λ r. ⌜ r ≡ allHex (now (word .entry)) ⌝ }
 {
     for i in 0..word.len() {
@@ -281,125 +255,4 @@ pub fn decode(digits: &[u8], into: &mut [u8]) -> usize
         into[i] = joined(digit(digits[high]), digit(digits[low]));
     }
     count
-}
-
-// ---- calls
-// A call of a line that has no word of a number, which would be one too many.
-fn ended(line: &[u8], number: usize, call: Call) -> Call
-    ensures { λ r. ⌜ r ≡ endedBy number (now (line .entry)) call ⌝ }
-{
-    if word(line, number).len() == 0 {
-        return call;
-    }
-    Call::Wrong(Fault::ExtraWord, number)
-}
-
-// A call whose bytes are word 2, the last.
-fn with_bytes(line: &[u8], call: Call) -> Call
-    ensures { λ r. ⌜ r ≡ withBytes (now (line .entry)) call ⌝ }
-{
-    let digits = word(line, 2);
-    if !is_hex(digits) {
-        return Call::Wrong(Fault::NotHex, 2);
-    }
-    if digits.len() % 2 != 0 {
-        return Call::Wrong(Fault::OddDigits, 2);
-    }
-    if MAX_BYTES as usize * 2 < digits.len() {
-        return Call::Wrong(Fault::TooLong, 2);
-    }
-    ended(line, 3, call)
-}
-
-fn parse_save(line: &[u8]) -> Call
-    ensures { λ r. ⌜ r ≡ saveOf (now (line .entry)) ⌝ }
-{
-    match parse_number(word(line, 1)) {
-        Number::Wrong(fault) => Call::Wrong(fault, 1),
-        Number::Value(offset) => with_bytes(line, Call::Save(offset)),
-    }
-}
-
-fn parse_step(line: &[u8]) -> Call
-    ensures { λ r. ⌜ r ≡ stepOf (now (line .entry)) ⌝ }
-{
-    let count = word(line, 1);
-    if count.len() == 0 {
-        return Call::Step(1, false);
-    }
-    if check::same(count, b"with") {
-        return with_bytes(line, Call::Step(1, true));
-    }
-    if check::same(count, b"all") {
-        return ended(line, 2, Call::Step(MAX_NUMBER, false));
-    }
-    match parse_number(count) {
-        Number::Wrong(fault) => Call::Wrong(fault, 1),
-        Number::Value(steps) => ended(line, 2, Call::Step(steps, false)),
-    }
-}
-
-// A read of a part or, as a copy, into an output.
-fn part_call(copy: bool, offset: u32, len: u32) -> Call
-    ensures { λ r. ⌜ r ≡ partCall copy offset len ⌝ }
-{
-    if copy {
-        return Call::Copy(offset, len);
-    }
-    Call::Read(offset, len)
-}
-
-// A read or a copy, with a limit to its length.
-fn parse_part(line: &[u8], copy: bool, most: u32) -> Call
-    ensures { λ r. ⌜ r ≡ partOf copy most (now (line .entry)) ⌝ }
-{
-    match parse_number(word(line, 1)) {
-        Number::Wrong(fault) => Call::Wrong(fault, 1),
-        Number::Value(offset) => match parse_number(word(line, 2)) {
-            Number::Wrong(fault) => Call::Wrong(fault, 2),
-            Number::Value(len) => {
-                if most < len {
-                    return Call::Wrong(Fault::TooLong, 2);
-                }
-                ended(line, 3, part_call(copy, offset, len))
-            }
-        },
-    }
-}
-
-// The call of a line whose name is none of a walk's.
-fn parse_other(line: &[u8], name: &[u8]) -> Call
-    ensures { λ r. ⌜ r ≡ otherOf (now (name .entry)) (now (line .entry)) ⌝ }
-{
-    if check::same(name, b"read") {
-        return parse_part(line, false, MAX_NUMBER);
-    }
-    if check::same(name, b"copy") {
-        return parse_part(line, true, MAX_BYTES);
-    }
-    if check::same(name, b"cut") {
-        return ended(line, 1, Call::Cut);
-    }
-    Call::Wrong(Fault::UnknownWord, 0)
-}
-
-// The call of a line that begins with its first word, or what is wrong with it: the first fault
-// from the left.
-pub fn parse(line: &[u8]) -> Call
-    ensures { λ r. ⌜ r ≡ callOf (now (line .entry)) ⌝ }
-{
-    let name = word(line, 0);
-    if name.len() == 0 {
-        return Call::Nothing;
-    }
-    if check::same(name, b"save") {
-        return parse_save(line);
-    }
-    if check::same(name, b"format") {
-        return ended(line, 1, Call::Format);
-    }
-    if check::same(name, b"step") {
-        return parse_step(line);
-    }
-    parse_other(line, name)
 }

@@ -1,107 +1,80 @@
-// A script made call by call on two pages, with what the board answers to each. The lines are in
-// docs/FORMATS.md.
-use boards::Board;
+// A script made call by call on copies of two pages, with what the board answers to each. The lines
+// are in docs/FORMATS.md.
+//
+// What is printed is printed from the answers and from the pages as they are then; that they are the
+// model's is in specs/Timelines.antt and in the crate sessions.
 use boards::Hand;
-use pages::PageOffset;
-use texts::Call;
-use walks::Begun;
-use walks::Walk;
-
-// ---- calls
-fn print_begun(begun: Begun) {
-    match begun {
-        Begun::On(walk) => {
-            prints::text(b"  begun: ");
-            answers::counts(walk);
-        }
-        Begun::Refused(why) => answers::refused(why.number()),
-    }
-}
-
-fn print_read<'a>(left: &'a [u8], right: &'a [u8], offset: u32, len: u32) {
-    let reading = reads::check_read(left, right, PageOffset(offset), len);
-    answers::read(reading, reads::read(left, right, PageOffset(offset), len));
-}
-
-fn copy_into<'a>(left: &'a [u8], right: &'a [u8], offset: u32, output: &mut [u8], len: usize) {
-    if output.len() < len {
-        return;
-    }
-    let lent = &mut output[0..len];
-    let reading = reads::read_into(left, right, PageOffset(offset), lent);
-    answers::copy(reading, lent);
-}
-
-fn print_copy<'a>(left: &'a [u8], right: &'a [u8], offset: u32, len: u32) {
-    let mut output = [0u8; 4096];
-    copy_into(left, right, offset, &mut output, len as usize);
-}
-
-fn print_cut<'a>(left: &'a [u8], right: &'a [u8], hand: Hand) {
-    match hand {
-        Hand::Empty => prints::text(b"  the power is cut: no walk was in hand\n"),
-        Hand::On(walk) => answers::cut(walk),
-    }
-    traces::show(left, right, boards::image(left, right));
-}
-
-// Prints the answer to a line's call, which changes no page.
-fn print_answer<'a>(call: Call, line: &[u8], left: &'a [u8], right: &'a [u8], hand: Hand) {
-    match call {
-        Call::Save(offset) => {
-            print_begun(boards::begin_save(left, right, offset, texts::word(line, 2)))
-        }
-        Call::Format => print_begun(Walk::format(left, right)),
-        Call::Read(offset, len) => print_read(left, right, offset, len),
-        Call::Copy(offset, len) => print_copy(left, right, offset, len),
-        Call::Cut => print_cut(left, right, hand),
-        _ => {}
-    }
-}
+use sessions::Session;
+ghost use mathlib.Core.Path.{_≡_};
+ghost use Rattle.timelines.specs.Timelines.{walkIn, endsWith};
 
 // ---- the script
-// Makes the call of the line at a place and prints its answer.
-fn make(text: &[u8], at: usize, left: &mut [u8], right: &mut [u8], board: Board) -> Board {
-    let line = texts::line_at(text, at);
-    let call = texts::parse(line);
-    match call {
-        Call::Step(count, with) => {
-            let digits = boards::step_digits(text, line, with, board);
-            traces::step_hand(count, digits, left, right, board)
-        }
-        _ => {
-            let hand = board.hand;
-            print_answer(call, line, left, right, hand);
-            boards::make(text, at, left, right, board)
-        }
-    }
-}
-
-// Makes the calls of a script, prints each with its answer, and counts them.
-fn run_lines(text: &[u8], left: &mut [u8], right: &mut [u8]) -> u64 {
-    let mut board = Board::new();
-    let mut at: usize = 0;
-    let mut number: u64 = 0;
-    let mut calls: u64 = 0;
-    while at < text.len() {
-        number += 1;
-        calls += listings::print_line(number, texts::line_at(text, at));
-        board = make(text, at, left, right, board);
-        at = texts::next_line(text, at);
-    }
-    calls
-}
-
 fn print_first<'a>(left: &'a [u8], right: &'a [u8]) {
     prints::text(b"\nat first\n");
-    traces::show(left, right, b"");
+    replies::show(left, right, b"");
 }
 
-// Makes the calls of a script whose lines are right, and prints the pages at first, each call with
-// its answer, and how many calls there are. It begins with the end of the line of P.
-pub fn run(text: &[u8], left: &mut [u8], right: &mut [u8]) {
+// Prints the next line of a script where one is taken, and gives its number.
+fn print_line(session: Session, text: &[u8], number: u64) -> u64 {
+    if 0 < session.left {
+        return number;
+    }
+    let next = std::num::wrapping_add_u64(number, 1);
+    listings::print_line(next, texts::line_at(text, session.at));
+    next
+}
+
+// Makes the calls of a script whose lines are right on copies of the pages, and prints the pages at
+// first, each call with its answer, and how many calls there are. It begins with the end of the line
+// of P. The walk that is in hand in the end is handed back. Pages that differ in length, or are longer
+// than any page, have no calls.
+pub fn run<'a>(text: &[u8], left: &'a [u8], right: &'a [u8]) -> Hand
+    ensures { λ r.
+        ⌜ walkIn r ≡ endsWith (now (text .entry)) (now (left .entry)) (now (right .entry)) ⌝ }
+{
+    let mut session = Session::new();
+    let page = left.len();
+    if pages::MAX_PAGE < page {
+        return Hand::Empty;
+    }
+    if right.len() != page {
+        return Hand::Empty;
+    }
+    let mut now_left = turns::blank();
+    let mut now_right = turns::blank();
+    let mut shown = turns::blank();
+    copies::copy(left, &mut now_left);
+    copies::copy(right, &mut now_right);
     print_first(left, right);
-    let calls = run_lines(text, left, right);
-    prints::labelled(b"ok: replayed, calls: ", calls);
-    prints::text(b"\n");
+    let mut number: u64 = 0;
+    let mut on = session.is_on(text);
+    while on {
+        let before = verdicts::image(&now_left[0..page], &now_right[0..page]);
+        let size = before.len();
+        copies::copy(before, &mut shown);
+        number = print_line(session, text, number);
+        let mut out = turns::blank();
+        let answered = sessions::next(
+            text,
+            session,
+            &mut now_left[0..page],
+            &mut now_right[0..page],
+            &mut out,
+        );
+        replies::print_answer(
+            answered,
+            session,
+            text,
+            &now_left[0..page],
+            &now_right[0..page],
+            loads::first(&shown, size),
+            loads::first(&out, answered.len),
+        );
+        let next = answered.session;
+        session = next;
+        on = session.is_on(text);
+    }
+    listings::print_calls(text);
+    let hand = session.hand;
+    hand
 }

@@ -1,58 +1,86 @@
 -- What a read shows after a save was cut: the image before the save, the new one, or another (the
 -- report of `--cuts` in docs/FORMATS.md).
--- In order: the new image, byte by byte; the verdict; counting verdicts.
+-- In order: what a read shows; the new image, byte by byte; the verdict; counting verdicts.
 -- Laws: proofs/Laws.antt, where the new image is the old one with the data laid in. Assumes nothing.
-use Prim.Native.Nat.{ℕ, _+_, _-_, _%_, _^_}
-use mathlib.Core.Bool.{Bool, true, false, cond, _&&_, not}
+use Prim.Native.Nat.{ℕ, _+_, _-_, _*_, _%_, _^_}
+use mathlib.Core.Bool.{Bool, true, false, cond, _&&_}
 use mathlib.Core.List.{List, [], _∷_}
-use lib.Dec.{eqb, ltb}
-use lib.ListN.{getD}
+use lib.Dec.{eqb, ltb, leb}
+use lib.ListN.{length, getD}
 use Rattle.pages.specs.declared.PageOffset.{PageOffset}
+use Rattle.pages.specs.declared.ImageOffset.{ImageOffset}
+use Rattle.pages.specs.Offsets.{toPage}
+use Rattle.plans.specs.Counts.{cellCount}
+use Rattle.reads.specs.Reads.{readPart}
 use Rattle.texts.specs.Texts.{same}
 use Rattle.verdicts.specs.declared.Verdict.{Verdict}
-use Rattle.verdicts.specs.declared.Verdict.the-variants.{NoImage, Old, Both, New, Another}
+use Rattle.verdicts.specs.declared.Verdict as D
 use Rattle.verdicts.specs.declared.Tally.{Tally}
 
--- a byte of an image, FF where there is none
-abbrev pub oldByte : List ℕ → ℕ → ℕ
-oldByte image i = getD image i 255
+-- "a read of the whole image", all its cells: nothing where it is refused or no page is live
+abbrev pub shown : List ℕ → List ℕ → List ℕ
+shown l r = readPart l r (toPage (record { 0 = 0 })) (cellCount (length l) * 2)
 
--- a byte of the image with data laid in from a place on
-abbrev pub newByte : List ℕ → ℕ → List ℕ → ℕ → ℕ
-newByte image start d i = cond (ltb i start) (oldByte image i) (getD d (i - start) (oldByte image i))
+-- ---- the new image
+-- a byte of an image, "FF where there was none"
+abbrev pub oldByte : List ℕ → ImageOffset → ℕ
+oldByte image i = getD image (i .0) 255
 
--- whether bytes that lie from a place on are those of the new image
-unfoldable pub isNew : List ℕ → List ℕ → ℕ → List ℕ → ℕ → Bool
-isNew [] old start d i = true
-isNew (x ∷ xs) old start d i = eqb x (newByte old start d i) && isNew xs old start d (i + 1)
+-- a byte of the image with data laid in from a page offset on
+abbrev pub newByte : List ℕ → PageOffset → List ℕ → ImageOffset → ℕ
+newByte image o d i =
+    let place = toPage i .0 in
+    cond (ltb place (o .0)) (oldByte image i) (getD d (place - o .0) (oldByte image i))
 
--- whether an image is the one before a save with its data laid in at a page offset
+-- whether bytes that lie from an image offset on are those of the new image
+unfoldable pub isNew : List ℕ → List ℕ → PageOffset → List ℕ → ℕ → Bool
+isNew [] old o d i = true
+isNew (x ∷ xs) old o d i = eqb x (newByte old o d (record { 0 = i })) && isNew xs old o d (i + 1)
+
+-- whether an image, which is no longer than a page, is the one before a save with its data laid in
 abbrev pub isSaved : List ℕ → List ℕ → PageOffset → List ℕ → Bool
-isSaved now old offset d = not (ltb (offset .0) 4) && isNew now old (offset .0 - 4) d 0
+isSaved image old o d = leb (length image) 4096 && isNew image old o d 0
 
-abbrev pub imageVerdict : Bool → Bool → Verdict
-imageVerdict true true = Both
-imageVerdict true false = Old
-imageVerdict false true = New
-imageVerdict false false = Another
+-- ---- the verdict
+-- "a read is answered 5, as before the save"; "shows the old image"; "shows the old image, which is
+-- the new one too"; "shows the new image"; "shows ANOTHER IMAGE"
+pub data Shows : Type 0 where
+  noImage : Shows
+  old : Shows
+  both : Shows
+  new : Shows
+  another : Shows
+
+abbrev pub verdictIn : Verdict → Shows
+verdictIn D.the-variants.NoImage = noImage
+verdictIn D.the-variants.Old = old
+verdictIn D.the-variants.Both = both
+verdictIn D.the-variants.New = new
+verdictIn D.the-variants.Another = another
+
+abbrev pub imageVerdict : Bool → Bool → Shows
+imageVerdict true true = both
+imageVerdict true false = old
+imageVerdict false true = new
+imageVerdict false false = another
 
 -- what a read shows beside the image before the save; no bytes stand for no image
-unfoldable pub verdictOf : List ℕ → List ℕ → PageOffset → List ℕ → Verdict
-verdictOf [] [] offset d = NoImage
-verdictOf [] (y ∷ ys) offset d = Another
-verdictOf (x ∷ xs) old offset d = imageVerdict (same (x ∷ xs) old) (isSaved (x ∷ xs) old offset d)
+unfoldable pub verdictOf : List ℕ → List ℕ → PageOffset → List ℕ → Shows
+verdictOf [] [] o d = noImage
+verdictOf [] (y ∷ ys) o d = another
+verdictOf (x ∷ xs) before o d = imageVerdict (same (x ∷ xs) before) (isSaved (x ∷ xs) before o d)
 
 -- ---- counting
 abbrev pub oneMore : ℕ → ℕ
 oneMore n = (n + 1) % 2 ^ 64
 
-abbrev pub none : Tally
-none = record { old = 0; new = 0; another = 0 }
+abbrev pub noCuts : Tally
+noCuts = record { old = 0; new = 0; another = 0 }
 
 -- with one verdict more; what a read shows where nothing new is to be seen counts as old
-abbrev pub counted : Tally → Verdict → Tally
-counted t New = record { old = t .old; new = oneMore (t .new); another = t .another }
-counted t Another = record { old = t .old; new = t .new; another = oneMore (t .another) }
-counted t NoImage = record { old = oneMore (t .old); new = t .new; another = t .another }
-counted t Old = record { old = oneMore (t .old); new = t .new; another = t .another }
-counted t Both = record { old = oneMore (t .old); new = t .new; another = t .another }
+abbrev pub counted : Tally → Shows → Tally
+counted t new = record { old = t .old; new = oneMore (t .new); another = t .another }
+counted t another = record { old = t .old; new = t .new; another = oneMore (t .another) }
+counted t noImage = record { old = oneMore (t .old); new = t .new; another = t .another }
+counted t old = record { old = oneMore (t .old); new = t .new; another = t .another }
+counted t both = record { old = oneMore (t .old); new = t .new; another = t .another }

@@ -1,20 +1,27 @@
 // What a read shows after a save was cut: the image before the save, the new one, or another. What
 // each verdict means is in specs/Verdicts.antt; the lines that are printed are in docs/FORMATS.md.
-use pages::InImage;
+use pages::ImageOffset;
 use pages::PageOffset;
+ghost use Prim.Native.Nat.{_≤_};
 ghost use mathlib.Core.Path.{_≡_};
+ghost use lib.ListN.{length};
 ghost use Rattle.texts.specs.Texts.{same};
 ghost use Rattle.verdicts.specs.Verdicts.{
+  shown,
   oldByte,
   newByte,
   isNew,
   isSaved,
   imageVerdict,
+  verdictIn,
   verdictOf,
   oneMore,
-  none,
+  noCuts,
   counted,
 };
+
+// The length of the longest image, and more.
+const MAX_PAGE: usize = pages::MAX_PAGE;
 
 // What a read shows after a cut: no image, as before the save; the image before it, which may be
 // the new one too; the new one; or another.
@@ -34,55 +41,75 @@ pub struct Tally {
 }
 
 // ---- what a read shows
-// A byte of an image, FF where there is none.
-fn old_byte(image: &[u8], at: usize) -> u8
-    ensures { λ r. ⌜ r ≡ oldByte (now (image .entry)) at ⌝ }
+// What a read of the whole image gives: nothing where no page is live.
+pub fn image<'a>(left: &'a [u8], right: &'a [u8]) -> &'a [u8]
+    ensures { λ r. ⌜ now r ≡ shown (now (left .entry)) (now (right .entry)) ⌝ }
 {
-    if at < image.len() { image[at] } else { 255 }
+    let size = left.len();
+    if MAX_PAGE < size {
+        return &left[0..0];
+    }
+    let start = ImageOffset(0).to_page();
+    reads::read(left, right, start, plans::cell_count(size as u32) * 2)
 }
 
-// A byte of an image into which data is laid from a place on.
-fn new_byte(image: &[u8], start: usize, data: &[u8], at: usize) -> u8
-    ensures { λ r.
-        ⌜ r ≡ newByte (now (image .entry)) start (now («data» .entry)) at ⌝ }
+// A byte of an image, FF where there is none.
+fn old_byte(image: &[u8], at: ImageOffset) -> u8
+    ensures { λ r. ⌜ r ≡ oldByte (now (image .entry)) at ⌝ }
 {
-    if at < start {
+    let place = at.0 as usize;
+    if place < image.len() {
+        image[place]
+    } else {
+        255
+    }
+}
+
+// A byte of an image into which data is laid from a page offset on.
+fn new_byte(image: &[u8], offset: PageOffset, data: &[u8], at: ImageOffset) -> u8
+    ensures { λ r.
+        ⌜ r ≡ newByte (now (image .entry)) offset (now («data» .entry)) at ⌝ }
+{
+    let place = at.to_page().0;
+    let start = offset.0;
+    if place < start {
         return old_byte(image, at);
     }
-    let inside = at - start;
+    let inside = (place - start) as usize;
     if inside < data.len() {
         return data[inside];
     }
     old_byte(image, at)
 }
 
-fn is_new(image: &[u8], old: &[u8], start: usize, data: &[u8]) -> bool
+fn is_new(image: &[u8], old: &[u8], offset: PageOffset, data: &[u8]) -> bool
+    requires { ⌜ length (now image) ≤ 4096 ⌝ }
     ensures { λ r.
-        ⌜ r ≡ isNew (now (image .entry)) (now (old .entry)) start (now («data» .entry)) 0 ⌝ }
+        ⌜ r ≡ isNew (now (image .entry)) (now (old .entry)) offset (now («data» .entry)) 0 ⌝ }
 {
     for i in 0..image.len() {
-        if image[i] != new_byte(old, start, data, i) {
+        if image[i] != new_byte(old, offset, data, ImageOffset(i as u32)) {
             return false;
         }
     }
     true
 }
 
-// Whether an image is the one before the save with the data laid in at a page offset. No save is
-// begun in the management bytes.
+// Whether an image is the one before the save with the data laid in at a page offset. None is longer
+// than a page.
 fn is_saved(image: &[u8], old: &[u8], offset: PageOffset, data: &[u8]) -> bool
     ensures { λ r.
         ⌜ r ≡ isSaved (now (image .entry)) (now (old .entry)) offset (now («data» .entry)) ⌝ }
 {
-    match offset.to_image() {
-        InImage::Management => false,
-        InImage::At(inside) => is_new(image, old, inside.0 as usize, data),
+    if MAX_PAGE < image.len() {
+        return false;
     }
+    is_new(image, old, offset, data)
 }
 
 fn judge_image(image: &[u8], old: &[u8], new: bool) -> Verdict
     ensures { λ r.
-        ⌜ r ≡ imageVerdict (same (now (image .entry)) (now (old .entry))) new ⌝ }
+        ⌜ verdictIn r ≡ imageVerdict (same (now (image .entry)) (now (old .entry))) new ⌝ }
 {
     if check::same(image, old) {
         if new {
@@ -100,7 +127,8 @@ fn judge_image(image: &[u8], old: &[u8], new: bool) -> Verdict
 // bytes stand for no image.
 pub fn judge(image: &[u8], old: &[u8], offset: PageOffset, data: &[u8]) -> Verdict
     ensures { λ r.
-        ⌜ r ≡ verdictOf (now (image .entry)) (now (old .entry)) offset (now («data» .entry)) ⌝ }
+        ⌜ verdictIn r
+        ≡ verdictOf (now (image .entry)) (now (old .entry)) offset (now («data» .entry)) ⌝ }
 {
     if 0 < image.len() {
         return judge_image(image, old, is_saved(image, old, offset, data));
@@ -119,7 +147,7 @@ fn one_more(n: u64) -> u64
 
 impl Tally {
     pub fn new() -> Tally
-        ensures { λ r. ⌜ r ≡ none ⌝ }
+        ensures { λ r. ⌜ r ≡ noCuts ⌝ }
     {
         Tally {
             old: 0,
@@ -130,7 +158,7 @@ impl Tally {
 
     // With one verdict more. No save has so many steps that a count wraps.
     pub fn with(self, verdict: Verdict) -> Tally
-        ensures { λ r. ⌜ r ≡ counted self verdict ⌝ }
+        ensures { λ r. ⌜ r ≡ counted self (verdictIn verdict) ⌝ }
     {
         let mut next = self;
         match verdict {

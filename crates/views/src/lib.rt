@@ -77,13 +77,8 @@ fn mark(s: Side, at: PageOffset, value: u16) {
     target(s, value);
 }
 
-// The page offset of an image offset. No image is so long that it wraps.
-fn page_offset(at: usize) -> u64 {
-    std::num::wrapping_add_usize(at, pages::MANAGEMENT_SIZE as usize) as u64
-}
-
 fn cell(s: Side, at: ImageOffset, value: u16) {
-    prints::labelled(b"program the image cell at ", page_offset(at.0 as usize));
+    prints::labelled(b"program the image cell at ", at.to_page().0 as u64);
     target(s, value);
 }
 
@@ -113,9 +108,18 @@ fn is_folded(row: &[u8], before: &[u8], fold: Fold) -> bool {
     }
 }
 
+// The page offset of a byte of an image.
+fn page_offset(at: usize) -> u64
+    requires { ⌜ at ≤ 4096 ⌝ }
+{
+    ImageOffset(at as u32).to_page().0 as u64
+}
+
 // Prints a run of rows that is folded, from an image offset up to another, or nothing where it is
 // empty.
-fn folded(from: usize, to: usize, fold: Fold) {
+fn folded(from: usize, to: usize, fold: Fold)
+    requires { ⌜ to ≤ 4096 ⌝ }
+{
     if to <= from {
         return;
     }
@@ -161,7 +165,7 @@ fn characters(row: &[u8]) {
 
 // Prints a row, whose first byte stands at an image offset.
 fn row(bytes: &[u8], before: &[u8], at: usize)
-    requires { ⌜ length (now bytes) ≡ length (now before) ⌝ }
+    requires { ⌜ (length (now bytes) ≡ length (now before)) × (at ≤ 4096) ⌝ }
 {
     prints::padded(page_offset(at), 6);
     prints::text(b" ");
@@ -174,7 +178,7 @@ fn row(bytes: &[u8], before: &[u8], at: usize)
 // Prints a row that isn't folded, after the run of folded rows from `run` up to it, and says
 // whether it did.
 fn unfolded(bytes: &[u8], before: &[u8], at: usize, run: usize, fold: Fold) -> bool
-    requires { ⌜ length (now bytes) ≡ length (now before) ⌝ }
+    requires { ⌜ (length (now bytes) ≡ length (now before)) × (at ≤ 4096) ⌝ }
 {
     if is_folded(bytes, before, fold) {
         return false;
@@ -192,11 +196,14 @@ fn row_end(at: usize, len: usize) -> usize
     if len - at < 16 { len } else { at + 16 }
 }
 
-// Prints the rows of an image beside an earlier one.
+// Prints the rows of an image beside an earlier one. No image is longer than a page.
 fn rows(image: &[u8], before: &[u8], fold: Fold)
     requires { ⌜ length (now image) ≡ length (now before) ⌝ }
 {
     let len = image.len();
+    if pages::MAX_PAGE < len {
+        return;
+    }
     let mut run: usize = 0;
     let mut at: usize = 0;
     while at < len {

@@ -1,4 +1,6 @@
-pub mod Sizes
-pub mod Numbers
 pub mod Laws
-pub mod Tries
+pub mod Numbers
+pub mod Runs
+pub mod Sixes
+pub mod Sizes
+pub mod Steps

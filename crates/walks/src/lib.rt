@@ -9,36 +9,24 @@
 // Any walk may be made by hand and stepped on any pages: a step tests all that it relies on. What
 // each beginning and each step are is in specs/Walks.antt, the list of steps in the crate plans.
 use flash::Programmed;
-use pages::ImageOffset;
-use pages::InImage;
-use pages::Live;
 use pages::PageOffset;
-use pages::Side;
 use pages::State;
-use plans::Entry;
 use plans::InCells;
 use plans::Request;
 use plans::Spot;
 use requests::Check;
 use requests::Refusal;
-ghost use Prim.Native.Nat.{_+_, _%_, _<_, _≤_};
+ghost use Prim.Native.Nat.{_<_, _≤_};
 ghost use mathlib.Core.Bool.{false};
 ghost use mathlib.Core.Path.{_≡_};
 ghost use lib.ListN.{length, getD};
-ghost use Rattle.flash.specs.Flash.{numberIn, cellAt};
-ghost use Rattle.requests.proofs.Laws.{Legal};
-ghost use Rattle.steps.specs.declared.Step.the-variants.{Image};
+ghost use Rattle.flash.specs.Flash.{numberIn};
+ghost use Rattle.requests.specs.Numbers.{numberIn as checkNumber, requestNumber};
 ghost use Rattle.steps.specs.Steps.{Tried};
-ghost use Rattle.images.specs.Images.{imageOn, liveImage, orBlank};
-ghost use Rattle.plans.specs.Plans.{
-  entry,
-  target,
-  clean,
-  nothing,
-};
+ghost use Rattle.plans.specs.Plans.{nothing};
 ghost use Rattle.plans.specs.Counts.{stepCount};
+ghost use Rattle.tries.specs.Tries.{attempt};
 ghost use Rattle.walks.specs.Walks.{
-  newImage,
   stepsOf,
   firstWalk,
   beginningIn,
@@ -48,9 +36,11 @@ ghost use Rattle.walks.specs.Walks.{
   saidIn,
   wrongFormat,
   wrongNumbers,
-  attempt,
   advanced,
   stepOf,
+  atPlace,
+  Course,
+  runOf,
 };
 
 // A walk: the request, the line and erased-or-not that it began with, P, page offset, length, and
@@ -84,6 +74,15 @@ pub struct Stepped {
     pub progress: Progress,
 }
 
+// How far a walk was stepped: the walk handed back, how many steps were made, and what the last one
+// said; Made where as many were made as were asked for.
+pub struct Ran {
+    pub walk: Walk,
+    pub steps: u32,
+    pub progress: Progress,
+}
+
+// ---- beginning
 // The walk of a request that is legal.
 fn first_walk(request: Request, left: &[u8], right: &[u8], offset: PageOffset, len: u32) -> Walk
     requires { ⌜ length (now left) ≤ 4096 ⌝ }
@@ -104,75 +103,14 @@ fn first_walk(request: Request, left: &[u8], right: &[u8], offset: PageOffset, l
     }
 }
 
-// ---- trying an entry
-// An entry of the list, tried on the pages: its line first, then its flash step.
-fn try_entry(x: Entry, left: &mut [u8], right: &mut [u8]) -> Programmed
-    ensures { λ r.
-        ⌜ _≡_ {A = Tried}
-        (record { number = numberIn r; left = now (left .exit); right = now (right .exit) })
-        (attempt x (now (left .entry)) (now (right .entry))) ⌝ }
+// Number 1 to 4, with the lengths that a page may have as the walk's type has them.
+fn check_numbers(left: usize, right: usize, offset: PageOffset, len: usize) -> Check
+    ensures { λ r. ⌜ checkNumber r ≡ requestNumber left right offset len 0 ⌝ }
 {
-    let state = x.state;
-    let step = x.step;
-    if lines::is_at(left, right, state) {
-        return steps::make(step, left, right);
-    }
-    Programmed::Unfit
+    requests::check_within(left, right, Walk::MIN_PAGE, Walk::MAX_PAGE, offset, len)
 }
 
-// The image that the new one is made from: none where no page is live.
-fn old_image<'a>(live: Live, left: &'a [u8], right: &'a [u8]) -> &'a [u8]
-    requires { ⌜ (4 ≤ length (now left)) × (4 ≤ length (now right)) ⌝ }
-    ensures { λ r.
-        ⌜ now r ≡ orBlank 0 (imageOn live (now (left .entry)) (now (right .entry))) ⌝ }
-{
-    let start = Walk::MANAGEMENT_SIZE as usize;
-    match live {
-        Live::Nowhere => &left[..0],
-        Live::On(side) => match side {
-            Side::Left => &left[start..],
-            Side::Right => &right[start..],
-        },
-    }
-}
-
-// An image cell, tried on the pages. Where they are at its line, the page that is live is the one
-// that the new image is made from. The offset lies in the image, so `Management` isn't met.
-fn try_cell(
-    live: Live,
-    at: ImageOffset,
-    offset: PageOffset,
-    data: &[u8],
-    left: &mut [u8],
-    right: &mut [u8],
-) -> Programmed
-    requires { ⌜ Legal (length (now left)) (length (now right)) (offset .0) (length (now «data»))
-        × (at .0 % 2 ≡ 0)
-        × (at .0 + 5 < length (now left)) ⌝ }
-    ensures { λ r.
-        ⌜ _≡_ {A = Tried}
-        (record { number = numberIn r; left = now (left .exit); right = now (right .exit) })
-        (attempt
-        (entry (clean live) (Image (target live) at (cellAt
-        (newImage live (length (now (left .entry))) (offset .0) (now («data» .entry))
-        (liveImage (now (left .entry)) (now (right .entry))))
-        (at .0))))
-        (now (left .entry))
-        (now (right .entry))) ⌝ }
-{
-    if !lines::is_clean(left, right, live) {
-        return Programmed::Unfit;
-    }
-    match offset.to_image() {
-        InImage::Management => Programmed::Unfit,
-        InImage::At(inside) => {
-            let value = images::new_cell(old_image(live, left, right), inside, data, at);
-            let side = entries::target_side(live);
-            steps::make_image(side, at, value, left, right)
-        }
-    }
-}
-
+// ---- stepping
 // The entry at the walk's place, tried on the pages. Its place lies in the list, so `Beyond` isn't
 // met; image cells are asked for first, so that they take no turn through an entry.
 fn try_step(walk: Walk, left: &mut [u8], right: &mut [u8], data: &[u8]) -> Programmed
@@ -192,24 +130,23 @@ fn try_step(walk: Walk, left: &mut [u8], right: &mut [u8], data: &[u8]) -> Progr
     let start = walk.start;
     let offset = walk.offset;
     match entries::cell_at(request, start, walk.erased, walk.page, walk.place) {
-        InCells::At(at) => {
-            let live = entries::live_of(start);
-            try_cell(live, at, offset, data, left, right)
+        InCells::At(side, at) => {
+            let live = start.live();
+            tries::try_cell(live, side, at, offset, data, left, right)
         }
         InCells::Outside => {
             match entries::spot_at(request, start, walk.erased, walk.page, walk.place) {
-                Spot::Fixed(x) => try_entry(x, left, right),
-                Spot::Cell(_, _, _, _) => Programmed::Unfit,
+                Spot::Fixed(x) => tries::try_entry(x, left, right),
+                Spot::Cell(_, _, _) => Programmed::Unfit,
                 Spot::Beyond => Programmed::Unfit,
             }
         }
     }
 }
 
-// ---- the numbers of a step
 // Whether a format has other than offset 4 and length 0.
 fn wrong_format(request: Request, offset: PageOffset, len: u32) -> bool
-    ensures { λ r. ⌜ r ≡ wrongFormat request (offset .0) len ⌝ }
+    ensures { λ r. ⌜ r ≡ wrongFormat request offset len ⌝ }
 {
     match request {
         Request::Save => false,
@@ -229,7 +166,7 @@ fn wrong_numbers(walk: Walk, left: usize, right: usize, data: usize) -> bool
 {
     let offset = walk.offset;
     let len = walk.len as usize;
-    match requests::check_request(left, right, offset, len) {
+    match check_numbers(left, right, offset, len) {
         Check::Refused(_) => true,
         Check::Legal => {
             if left != walk.page as usize {
@@ -261,7 +198,7 @@ impl Walk {
             ≡ beginSave (now (left .entry)) (now (right .entry)) offset (now («data» .entry)) ⌝ }
     {
         let size = data.len();
-        match requests::check_request(left.len(), right.len(), offset, size) {
+        match check_numbers(left.len(), right.len(), offset, size) {
             Check::Refused(why) => Begun::Refused(why),
             Check::Legal => {
                 let len = size as u32;
@@ -275,7 +212,7 @@ impl Walk {
         ensures { λ r.
             ⌜ beginningIn r ≡ beginFormat (now (left .entry)) (now (right .entry)) ⌝ }
     {
-        match requests::check_pages(left.len(), right.len()) {
+        match requests::check_lengths(left.len(), right.len(), Walk::MIN_PAGE, Walk::MAX_PAGE) {
             Check::Refused(why) => Begun::Refused(why),
             Check::Legal => {
                 let offset = PageOffset(Walk::MANAGEMENT_SIZE);
@@ -314,6 +251,73 @@ impl Walk {
         match try_step(self, left, right, data) {
             Programmed::Made => self.advanced().answered(Progress::Made),
             Programmed::Unfit => self.answered(Progress::Unfit),
+        }
+    }
+
+    // Steps the walk on until a step isn't made, at most so many times. The data is that of the save,
+    // and empty for a format; a refused step and one at the end change nothing. Only the place moves,
+    // so only that is carried from step to step, and the walk is put together from its fields: copied
+    // whole, it would be loaded in one piece right after its small fields were stored, for which the
+    // processor waits.
+    pub fn run(self, most: u32, left: &mut [u8], right: &mut [u8], data: &[u8]) -> Ran
+        ensures { λ r.
+            ⌜ _≡_ {A = Course}
+            (record {
+              said = saidIn (r .progress);
+              steps = r .steps;
+              walk = r .walk;
+              left = now (left .exit);
+              right = now (right .exit);
+            })
+            (runOf most self
+            (now (left .entry))
+            (now (right .entry))
+            (now («data» .entry))) ⌝ }
+    {
+        let mut place = self.place;
+        let mut steps: u32 = 0;
+        while steps < most {
+            let stepped = self.at(place).step(left, right, data);
+            let next = stepped.walk;
+            let progress = stepped.progress;
+            match progress {
+                Progress::Made => {
+                    place = next.place;
+                    steps += 1;
+                }
+                Progress::Ended => return next.ran(steps, Progress::Ended),
+                Progress::Unfit => return next.ran(steps, Progress::Unfit),
+            }
+        }
+        self.at(place).ran(steps, Progress::Made)
+    }
+
+    // The walk at a place of its list.
+    fn at(self, place: u32) -> Walk
+        ensures { λ r. ⌜ r ≡ atPlace self place ⌝ }
+    {
+        let request = self.request;
+        let start = self.start;
+        let offset = self.offset;
+        Walk {
+            request: request,
+            start: start,
+            erased: self.erased,
+            page: self.page,
+            offset: offset,
+            len: self.len,
+            place: place,
+        }
+    }
+
+    // The walk as far as it was stepped.
+    fn ran(self, steps: u32, progress: Progress) -> Ran
+        ensures { λ r. ⌜ r ≡ (record { walk = self; steps = steps; progress = progress }) ⌝ }
+    {
+        Ran {
+            walk: self,
+            steps: steps,
+            progress: progress,
         }
     }
 

@@ -18,7 +18,8 @@ same-length c = search needs
 
 returns : tie.Need-returns
 returns c =
-    copied _ _ (c .before .before .before .before .read-into .result) _ _ (c .wide .ensures) (c .before .number .ensures) (c .before .before .before .before .read-into .ensures)
+    let read = c .before .before .before .before in
+    copied _ _ (read .read-into .result) _ _ (c .wide .ensures) (c .before .number .ensures) (read .read-into .ensures)
 
 pub bench-copy-spec : {M : Type 1} → statement M
 bench-copy-spec =

@@ -39,7 +39,7 @@ returns-2 c =
     let told = step .before .before .before .before .before in
     let line = told .before .before in
     let a = line .before .before .before .before .args in
-    step-as _ (told .state .given .0 .0) (a .erased) (a .page) (a .offset) (a .length) _ _ _ (a .«data» .now) _ _ _
+    step-as _ (told .state .given .0 .0) (a .erased) (a .page) _ (a .len) _ _ _ (a .«data» .now) _ _ _
     (step .step .result)
     (sym (line .state-of .ensures) ∙ ap lineIn (told .state .given .1)) (c .code-of .ensures) (step .step .ensures)
 

@@ -1,4 +1,4 @@
--- `bench_walks::walk` meets its contract: what is begun is walked on, a refused request changes nothing.
+-- `bench_walks::walk` meets its contract: what is begun is run to its end, a refused request changes nothing.
 -- Assumes nothing.
 use Rattle.bench_walks.proofs.Laws.{walked-begun, walked-refused}
 use borrow.Author.Needs.{needs}
@@ -8,8 +8,11 @@ use Rattle.bench_walks.proofs.walk.Tie as tie
 enum-known-begun : tie.Need-enum-known-begun
 enum-known-begun c = search needs
 
-walk-on-requires : tie.Need-walk-on-requires
-walk-on-requires c κs = search needs
+run-requires : tie.Need-run-requires
+run-requires c κs = search needs
+
+last-number-requires : tie.Need-last-number-requires
+last-number-requires c κs = search needs
 
 enum-known-begun-2 : tie.Need-enum-known-begun-2
 enum-known-begun-2 c = search needs
@@ -28,10 +31,11 @@ same-length-2 c = search needs
 
 returns : tie.Need-returns
 returns c =
-    let told = c .before .before .before .before .before .before .before .before in
+    let run = c .before .before .before .before .before in
+    let told = run .before .before .before .before in
     let a = told .before .before .before .before .before .args in
-    walked-begun (a .begun) _ (a .left .now) (a .right .now) (a .«data» .now) _ (told .begun .given .1)
-    (c .before .before .before .before .walk-on .ensures)
+    walked-begun (a .begun) _ (a .left .now) (a .right .now) (a .«data» .now) _ _ (run .run .result) _
+    (told .begun .given .1) (run .run .ensures) (c .last-number .ensures)
 
 returns-2 : tie.Need-returns-2
 returns-2 c =
@@ -45,7 +49,8 @@ walk-spec =
     tie.close
     (tie.spec
     enum-known-begun
-    walk-on-requires
+    run-requires
+    last-number-requires
     enum-known-begun-2
     number-requires
     cast-wide

@@ -1,27 +1,20 @@
--- `boards::make` meets its contract, call by call. Assumes nothing.
-use mathlib.Core.Path.{refl}
-use Rattle.boards.proofs.Laws.{called-as, save-called, format-called, step-called, cut-called}
+-- `boards::make` meets its contract: each call is the one of the model. Assumes nothing.
+use mathlib.Core.Path.{refl, _∙_}
+use Rattle.boards.specs.Boards.{boardIn}
+use Rattle.boards.specs.declared.Call.the-variants.{Save, Format, Step, Read, ReadInto, Cut}
+use Rattle.boards.proofs.Laws.{save-made, format-made, read-made, into-made, cut-made, of-call}
 use borrow.Author.Needs.{needs}
 use Rattle.boards.proofs.make.Statement.{statement}
 use Rattle.boards.proofs.make.Tie as tie
 
-line-at-requires : tie.Need-line-at-requires
-line-at-requires c κs = search needs
+enum-known-call : tie.Need-enum-known-call
+enum-known-call c = search needs
 
-parse-requires : tie.Need-parse-requires
-parse-requires c κs = search needs
+save-requires : tie.Need-save-requires
+save-requires c κs = search needs
 
-enum-known-offset : tie.Need-enum-known-offset
-enum-known-offset c = search needs
-
-word-requires : tie.Need-word-requires
-word-requires c κs = search needs
-
-begin-save-requires : tie.Need-begin-save-requires
-begin-save-requires c κs = search needs
-
-take-requires : tie.Need-take-requires
-take-requires c κs = search needs
+begin-requires : tie.Need-begin-requires
+begin-requires c κs = search needs
 
 enum-told : tie.Need-enum-told
 enum-told c = search needs
@@ -29,35 +22,41 @@ enum-told c = search needs
 format-requires : tie.Need-format-requires
 format-requires c κs = search needs
 
-take-requires-2 : tie.Need-take-requires-2
-take-requires-2 c κs = search needs
+begin-requires-2 : tie.Need-begin-requires-2
+begin-requires-2 c κs = search needs
 
-enum-known-count : tie.Need-enum-known-count
-enum-known-count c = search needs
+enum-known-call-2 : tie.Need-enum-known-call-2
+enum-known-call-2 c = search needs
 
-step-digits-requires : tie.Need-step-digits-requires
-step-digits-requires c κs = search needs
+step-requires : tie.Need-step-requires
+step-requires c κs = search needs
 
-step-hand-requires : tie.Need-step-hand-requires
-step-hand-requires c κs = search needs
+enum-known-call-3 : tie.Need-enum-known-call-3
+enum-known-call-3 c = search needs
+
+read-requires : tie.Need-read-requires
+read-requires c κs = search needs
+
+answered-requires : tie.Need-answered-requires
+answered-requires c κs = search needs
+
+enum-known-call-4 : tie.Need-enum-known-call-4
+enum-known-call-4 c = search needs
+
+read-into-requires : tie.Need-read-into-requires
+read-into-requires c κs = search needs
+
+number-requires : tie.Need-number-requires
+number-requires c κs = search needs
+
+answered-requires-2 : tie.Need-answered-requires-2
+answered-requires-2 c κs = search needs
 
 enum-told-2 : tie.Need-enum-told-2
 enum-told-2 c = search needs
 
-new-requires : tie.Need-new-requires
-new-requires c κs = search needs
-
-enum-told-3 : tie.Need-enum-told-3
-enum-told-3 c = search needs
-
-enum-told-4 : tie.Need-enum-told-4
-enum-told-4 c = search needs
-
-enum-told-5 : tie.Need-enum-told-5
-enum-told-5 c = search needs
-
-enum-told-6 : tie.Need-enum-told-6
-enum-told-6 c = search needs
+answered-requires-3 : tie.Need-answered-requires-3
+answered-requires-3 c κs = search needs
 
 same-length : tie.Need-same-length
 same-length c = search needs
@@ -67,14 +66,13 @@ same-length-2 c = search needs
 
 returns : tie.Need-returns
 returns c =
-    let told = c .before .before .before .before .before .before in
-    let parse = told .before .before in
-    let a = parse .before .before .before .before .before .args in
-    called-as (a .text .now) _ (a .at) (a .left .now) (a .right .now) (a .board) _ _ _ (parse .before .line-at .ensures)
-    (parse .parse .ensures) (told .offset .given .1)
-    (save-called (a .text .now) _ _ (a .left .now) (a .right .now) (a .at) (told .offset .given .0 .0) (a .board) _
-    (c .before .begin-save .result) (parse .before .line-at .ensures) (c .before .before .word .ensures)
-    (c .before .begin-save .ensures) (c .take .ensures))
+    let a = c .before .before .before .before .before .before .before .before .before .before .before .before .args in
+    let b = boardIn (a .hand) (a .held .now) (a .left .now) (a .right .now) in
+    of-call (a .call) (Save _) (c .begin .result) (c .begin .result) b (a .held .now) (a .«data» .now) _ _
+    (a .out .now) _ (c .before .before .before .before .before .call .given .1) refl
+    (save-made _ (a .hand) (c .before .save .result) (a .held .now) (a .«data» .now) (a .left .now) (a .right .now)
+    (a .out .now)
+    (c .begin .result) (c .before .save .ensures) (c .begin .ensures))
 
 same-length-3 : tie.Need-same-length-3
 same-length-3 c = search needs
@@ -84,13 +82,13 @@ same-length-4 c = search needs
 
 returns-2 : tie.Need-returns-2
 returns-2 c =
-    let told = c .before .before .before .before in
-    let parse = told .before .before in
-    let a = parse .before .before .before .before .before .args in
-    called-as (a .text .now) _ (a .at) (a .left .now) (a .right .now) (a .board) _ _ _ (parse .before .line-at .ensures)
-    (parse .parse .ensures) (told .enum-told .given .1)
-    (format-called (a .text .now) (a .left .now) (a .right .now) (a .at) (a .board) _ (c .before .format .result)
-    (c .before .format .ensures) (c .take2 .ensures))
+    let a = c .before .before .before .before .before .before .before .before .before .before .before .args in
+    let b = boardIn (a .hand) (a .held .now) (a .left .now) (a .right .now) in
+    of-call (a .call) Format (c .begin2 .result) (c .begin2 .result) b (a .held .now) (a .«data» .now) _ _
+    (a .out .now) _ (c .before .before .before .before .enum-told .given .1) refl
+    (format-made (a .hand) (c .before .format .result) (a .held .now) (a .«data» .now) (a .left .now) (a .right .now)
+    (a .out .now)
+    (c .begin2 .result) (c .before .format .ensures) (c .begin2 .ensures))
 
 same-length-5 : tie.Need-same-length-5
 same-length-5 c = search needs
@@ -100,76 +98,82 @@ same-length-6 c = search needs
 
 returns-3 : tie.Need-returns-3
 returns-3 c =
-    let hand = c .before .before .before .before in
-    let digits = hand .before .before .before in
-    let told = digits .before .before in
-    let parse = told .before .before in
-    let a = parse .before .before .before .before .before .args in
-    called-as (a .text .now) _ (a .at) (a .left .now) (a .right .now) (a .board) _ _ _ (parse .before .line-at .ensures)
-    (parse .parse .ensures) (told .count .given .1)
-    (step-called (a .text .now) _ _ (a .left .now) (a .right .now) (a .at) (told .count .given .0 .0)
-    (told .count .given .0 .1 .0) (a .board) _ (parse .before .line-at .ensures) (digits .step-digits .ensures)
-    (hand .step-hand .ensures))
+    let a = c .before .before .before .before .before .before .before .before .before .before .before .before .before
+    .before .before .args in
+    let b = boardIn (a .hand) (a .held .now) (a .left .now) (a .right .now) in
+    of-call (a .call) (Step _) (c .before .before .before .before .step .result)
+    (c .before .before .before .before .step .result) b (a .held .now) (a .«data» .now) _ _ (a .out .now) _
+    (c .before .before .before .before .before .before .before .before .call2 .given .1) refl
+    (c .before .before .before .before .step .ensures (a .out .now))
+
+same-length-7 : tie.Need-same-length-7
+same-length-7 c = search needs
+
+same-length-8 : tie.Need-same-length-8
+same-length-8 c = search needs
 
 returns-4 : tie.Need-returns-4
 returns-4 c =
-    let told = c .before in
-    let parse = told .before .before in
-    let a = parse .before .before .before .before .before .args in
-    called-as (a .text .now) _ (a .at) (a .left .now) (a .right .now) (a .board) _ _ _ (parse .before .line-at .ensures)
-    (parse .parse .ensures) (told .enum-told2 .given .1)
-    (cut-called (a .text .now) (a .left .now) (a .right .now) (a .at) (a .board) _ (c .new .ensures))
+    let a = c .before .before .before .before .before .before .before .before .before .before .before .before .args in
+    let b = boardIn (a .hand) (a .held .now) (a .left .now) (a .right .now) in
+    of-call (a .call) (Read _ _) (c .answered .result) _ b (a .held .now) (a .«data» .now) _ _ (a .out .now) _
+    (c .before .before .before .before .before .call3 .given .1)
+    (c .answered .ensures)
+    (read-made _ _ (a .hand) (a .held .now) (a .«data» .now) (a .left .now) (a .right .now) (a .out .now)
+    (c .before .read .result)
+    (c .before .read .ensures))
+
+same-length-9 : tie.Need-same-length-9
+same-length-9 c = search needs
+
+same-length-10 : tie.Need-same-length-10
+same-length-10 c = search needs
+
+same-length-11 : tie.Need-same-length-11
+same-length-11 c = search needs
 
 returns-5 : tie.Need-returns-5
 returns-5 c =
-    let parse = c .before .before in
-    let a = parse .before .before .before .before .before .args in
-    called-as (a .text .now) _ (a .at) (a .left .now) (a .right .now) (a .board) _ _ _ (parse .before .line-at .ensures)
-    (parse .parse .ensures) (c .enum-told3 .given .1) refl
+    let a = c .before .before .before .before .before .before .before .before .before .before .before .before .before
+    .before .before .before .args in
+    let b = boardIn (a .hand) (a .held .now) (a .left .now) (a .right .now) in
+    of-call (a .call) (ReadInto _) (c .answered2 .result) _ b (a .held .now) (a .«data» .now) _ _ (a .out .now) _
+    (c .before .before .before .before .before .before .before .before .before .call4 .given .1)
+    (c .answered2 .ensures)
+    (into-made _ _ (c .before .number .result) (a .hand) (a .held .now) (a .«data» .now) (a .left .now)
+    (a .right .now) (a .out .now) _
+    (c .before .number .ensures) (c .before .before .before .before .read-into .ensures))
 
 returns-6 : tie.Need-returns-6
 returns-6 c =
-    let parse = c .before .before in
-    let a = parse .before .before .before .before .before .args in
-    called-as (a .text .now) _ (a .at) (a .left .now) (a .right .now) (a .board) _ _ _ (parse .before .line-at .ensures)
-    (parse .parse .ensures) (c .enum-told4 .given .1) refl
-
-returns-7 : tie.Need-returns-7
-returns-7 c =
-    let parse = c .before .before in
-    let a = parse .before .before .before .before .before .args in
-    called-as (a .text .now) _ (a .at) (a .left .now) (a .right .now) (a .board) _ _ _ (parse .before .line-at .ensures)
-    (parse .parse .ensures) (c .enum-told5 .given .1) refl
-
-returns-8 : tie.Need-returns-8
-returns-8 c =
-    let parse = c .before .before in
-    let a = parse .before .before .before .before .before .args in
-    called-as (a .text .now) _ (a .at) (a .left .now) (a .right .now) (a .board) _ _ _ (parse .before .line-at .ensures)
-    (parse .parse .ensures) (c .enum-told6 .given .1) refl
+    let a = c .before .before .before .before .before .before .before .before .args in
+    let b = boardIn (a .hand) (a .held .now) (a .left .now) (a .right .now) in
+    of-call (a .call) Cut (c .answered3 .result) _ b (a .held .now) (a .«data» .now) _ _ (a .out .now) _
+    (c .before .enum-told2 .given .1)
+    (c .answered3 .ensures)
+    (cut-made (a .hand) (a .held .now) (a .«data» .now) (a .left .now) (a .right .now) (a .out .now))
 
 pub make-spec : {M : Type 1} → statement M
 make-spec =
     tie.close
     (tie.spec
-    line-at-requires
-    parse-requires
-    enum-known-offset
-    word-requires
-    begin-save-requires
-    take-requires
+    enum-known-call
+    save-requires
+    begin-requires
     enum-told
     format-requires
-    take-requires-2
-    enum-known-count
-    step-digits-requires
-    step-hand-requires
+    begin-requires-2
+    enum-known-call-2
+    step-requires
+    enum-known-call-3
+    read-requires
+    answered-requires
+    enum-known-call-4
+    read-into-requires
+    number-requires
+    answered-requires-2
     enum-told-2
-    new-requires
-    enum-told-3
-    enum-told-4
-    enum-told-5
-    enum-told-6
+    answered-requires-3
     same-length
     same-length-2
     returns
@@ -179,8 +183,11 @@ make-spec =
     same-length-5
     same-length-6
     returns-3
+    same-length-7
+    same-length-8
     returns-4
+    same-length-9
+    same-length-10
+    same-length-11
     returns-5
-    returns-6
-    returns-7
-    returns-8)
+    returns-6)

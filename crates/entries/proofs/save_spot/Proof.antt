@@ -1,6 +1,7 @@
 -- `entries::save_spot` meets its contract: the place lies before the image cells, among them, or after them.
 -- Assumes nothing.
 use native.Mathlib.Omega.{arith}
+use Rattle.pages.proofs.Laws.{live-same}
 use Rattle.plans.proofs.Counts.{ready-length}
 use Rattle.plans.proofs.Laws.{ready-inside}
 use Rattle.plans.proofs.Spots.{spot-ready, spot-cell, spot-mark}
@@ -26,8 +27,8 @@ returns c =
     let a = c .before .before .before .args in
     spot-ready (a .start) (a .erased) (a .page) (a .place) _ (omega arith) (c .ready-entry .ensures)
 
-live-of-requires : tie.Need-live-of-requires
-live-of-requires c κs = search needs
+live-requires : tie.Need-live-requires
+live-requires c κs = search needs
 
 cell-count-requires : tie.Need-cell-count-requires
 cell-count-requires c κs = search needs
@@ -47,8 +48,10 @@ returns-2 c =
     let count = clean .before .before in
     let live = count .before in
     let a = live .before .before .before .args in
-    spot-cell (a .start) (a .erased) (a .page) (a .place) _ _ _ _ (count .cell-count .result) (omega arith)
-    (omega arith) (count .cell-count .ensures) (omega arith) (live .live-of .ensures) (clean .clean-state .ensures)
+    spot-cell (a .start) (a .erased) (a .page) (a .place) _ _ (live .live .result) _ (count .cell-count .result)
+    (omega arith)
+    (omega arith) (count .cell-count .ensures) (omega arith) (live-same (live .live .result) _ (live .live .ensures))
+    (clean .clean-state .ensures)
     (c .target-side .ensures)
 
 mark-entry-requires : tie.Need-mark-entry-requires
@@ -59,8 +62,9 @@ returns-3 c =
     let count = c .before .before in
     let live = count .before in
     let a = live .before .before .before .args in
-    spot-mark (a .start) (a .erased) (a .page) (a .place) (live .live-of .result) _ (count .cell-count .result) _
-    (omega arith) (omega arith) (count .cell-count .ensures) (omega arith) (live .live-of .ensures)
+    spot-mark (a .start) (a .erased) (a .page) (a .place) (live .live .result) _ (count .cell-count .result) _
+    (omega arith) (omega arith) (count .cell-count .ensures) (omega arith) (live-same (live .live .result) _
+    (live .live .ensures))
     (c .mark-entry .ensures)
 
 pub save-spot-spec : {M : Type 1} → statement M
@@ -71,7 +75,7 @@ save-spot-spec =
     sub-before
     ready-entry-requires
     returns
-    live-of-requires
+    live-requires
     cell-count-requires
     clean-state-requires
     target-side-requires

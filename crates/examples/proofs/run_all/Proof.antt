@@ -1,31 +1,53 @@
--- `examples::run_all` is safe and ends. The loop's invariant: no more vectors are wrong than were run. Assumes nothing.
+-- `examples::run_all` is safe and ends. The loop's invariant: no call was answered wrong more often than vectors were
+-- run. Assumes nothing.
 use Prim.Native.Nat.{_≤_, _-_}
-use mathlib.Core.Logic.{⊎-elim}
 use native.Mathlib.Omega.{arith}
 use borrow.Author.Needs.{needs}
 use Rattle.examples.proofs.run_all.Statement.{statement}
 use Rattle.examples.proofs.run_all.Tie as tie
 
 abbrev Inv-loop : tie.InvT-loop
-Inv-loop vectors wrong₀ i₀ wrong i = (i ≤ 6) × (wrong ≤ i)
+Inv-loop vectors reads₀ copies₀ saves₀ formats₀ i₀ reads copies saves formats i =
+    (i ≤ 5) × (reads ≤ i) × (copies ≤ i) × (saves ≤ i) × (formats ≤ i)
 
 abbrev μ-loop : tie.MeasureT-loop
-μ-loop vectors wrong₀ i₀ wrong i = 6 - i
+μ-loop vectors reads₀ copies₀ saves₀ formats₀ i₀ reads copies saves formats i = 5 - i
 
 loop-holds : tie.Need-loop-holds Inv-loop μ-loop
 loop-holds c = search needs
 
-mul-v : tie.Need-mul-v Inv-loop μ-loop
-mul-v c = search needs
+mul-run : tie.Need-mul-run Inv-loop μ-loop
+mul-run c = search needs
 
-array-copy-out-v : tie.Need-array-copy-out-v Inv-loop μ-loop
-array-copy-out-v c = search needs
+array-copy-out-run : tie.Need-array-copy-out-run Inv-loop μ-loop
+array-copy-out-run c = search needs
 
 run-requires : tie.Need-run-requires Inv-loop μ-loop
 run-requires c κs = search needs
 
-add-wrong : tie.Need-add-wrong Inv-loop μ-loop
-add-wrong c = search needs
+one-if-wrong-requires : tie.Need-one-if-wrong-requires Inv-loop μ-loop
+one-if-wrong-requires c κs = search needs
+
+add-reads : tie.Need-add-reads Inv-loop μ-loop
+add-reads c = omega arith
+
+one-if-wrong-requires-2 : tie.Need-one-if-wrong-requires-2 Inv-loop μ-loop
+one-if-wrong-requires-2 c κs = search needs
+
+add-copies : tie.Need-add-copies Inv-loop μ-loop
+add-copies c = omega arith
+
+one-if-wrong-requires-3 : tie.Need-one-if-wrong-requires-3 Inv-loop μ-loop
+one-if-wrong-requires-3 c κs = search needs
+
+add-saves : tie.Need-add-saves Inv-loop μ-loop
+add-saves c = omega arith
+
+one-if-wrong-requires-4 : tie.Need-one-if-wrong-requires-4 Inv-loop μ-loop
+one-if-wrong-requires-4 c κs = search needs
+
+add-formats : tie.Need-add-formats Inv-loop μ-loop
+add-formats c = omega arith
 
 add-i : tie.Need-add-i Inv-loop μ-loop
 add-i c = omega arith
@@ -34,7 +56,7 @@ loop-less : tie.Need-loop-less Inv-loop μ-loop
 loop-less c = omega arith
 
 loop-again : tie.Need-loop-again Inv-loop μ-loop
-loop-again c = ⊎-elim (λ w. omega arith) (λ w. omega arith) (c .if1 .came)
+loop-again c = (omega arith, omega arith, omega arith, omega arith, omega arith)
 
 returns : tie.Need-returns Inv-loop μ-loop
 returns c = search needs
@@ -46,10 +68,17 @@ run-all-spec =
     Inv-loop
     μ-loop
     loop-holds
-    mul-v
-    array-copy-out-v
+    mul-run
+    array-copy-out-run
     run-requires
-    add-wrong
+    one-if-wrong-requires
+    add-reads
+    one-if-wrong-requires-2
+    add-copies
+    one-if-wrong-requires-3
+    add-saves
+    one-if-wrong-requires-4
+    add-formats
     add-i
     loop-less
     loop-again

@@ -2,7 +2,8 @@
 -- Assumes nothing.
 use borrow.Author.Needs.{needs}
 use native.Mathlib.Omega.{arith}
-use mathlib.Core.Path.{sym}
+use mathlib.Core.Path.{sym, ap, _∙_}
+use mathlib.Core.Option.{some}
 use Rattle.flash.proofs.Laws.{cell-here, cell-odd, cell-past}
 use Rattle.flash.proofs.cell_at.Statement.{statement}
 use Rattle.flash.proofs.cell_at.Tie as tie
@@ -37,7 +38,8 @@ joined-requires c κs = search needs
 returns-4 : tie.Need-returns-4
 returns-4 c =
     let a = c .before .before .before .before .before .before .before .args in
-    rw (c .joined .ensures) (sym (cell-here (a .page .now) (a .at) (omega arith) (omega arith)))
+    ap some (c .joined .ensures)
+    ∙ sym (cell-here (a .page .now) (a .at) (omega arith) (omega arith))
 
 pub cell-at-spec : {M : Type 1} → statement M
 cell-at-spec =

@@ -2,11 +2,11 @@
 -- of its bits says whether the step fits, and then both bytes are stored. Assumes nothing.
 use borrow.Author.Needs.{needs}
 use Prim.Native.Nat.{_+_, _<_}
-use mathlib.Core.Path.{sym, _∙_}
+use mathlib.Core.Path.{sym}
 use native.Mathlib.Omega.{arith}
 use lib.ListN.{length, length-set}
-use Rattle.flash.specs.Flash.{stored}
-use Rattle.flash.proofs.Laws.{step-unfit, step-nowhere, step-made, holds-inside}
+use Rattle.flash.specs.Flash.{cellIn, stored}
+use Rattle.flash.proofs.Laws.{told, step-unfit, step-nowhere, step-made, holds-inside}
 use Rattle.flash.proofs.program.Statement.{statement}
 use Rattle.flash.proofs.program.Tie as tie
 
@@ -27,7 +27,7 @@ returns c =
     let at = c .before .before in
     let a = at .before .before .before .before .before .args in
     step-unfit (a .page .now) (a .at) (a .value) (at .old .given .0 .0)
-    (sym (at .before .before .cell-at .ensures) ∙ at .old .given .1) (omega arith)
+    (sym (told cellIn (at .old .given .1) (at .before .before .cell-at .ensures))) (omega arith)
 
 -- the byte after the place lies in the page
 inside : (c : tie.Else1)
@@ -35,7 +35,7 @@ inside : (c : tie.Else1)
     a .at + 1 < length (a .page .now)
 inside c =
     let at = c .before .before in
-    holds-inside _ _ _ (sym (at .before .before .cell-at .ensures) ∙ at .old .given .1)
+    holds-inside _ _ _ (sym (told cellIn (at .old .given .1) (at .before .before .cell-at .ensures)))
 
 add-next : tie.Need-add-next
 add-next c = omega (arith, inside c)
@@ -56,7 +56,7 @@ same-length-2 : tie.Need-same-length-2
 same-length-2 c = search needs
 
 returns-2 : tie.Need-returns-2
-returns-2 c = step-nowhere _ _ _ (sym (c .before .before .cell-at .ensures) ∙ c .enum-told .given .1)
+returns-2 c = step-nowhere _ _ _ (sym (told cellIn (c .enum-told .given .1) (c .before .before .cell-at .ensures)))
 
 same-length-3 : tie.Need-same-length-3
 same-length-3 c = search needs
@@ -67,7 +67,7 @@ returns-3 c =
     let at = c .before .before in
     let a = at .before .before .before .before .before .args in
     step-made (a .page .now) (a .at) (a .value) (at .old .given .0 .0)
-    (sym (at .before .before .cell-at .ensures) ∙ at .old .given .1) (omega arith)
+    (sym (told cellIn (at .old .given .1) (at .before .before .cell-at .ensures))) (omega arith)
 
 pub program-spec : {M : Type 1} → statement M
 program-spec =

@@ -5,8 +5,7 @@ use mathlib.Core.Path.{refl, ap, _∙_}
 use native.Mathlib.Omega.{arith}
 use lib.Dec.{eqb}
 use Rattle.pages.specs.declared.State.the-variants.{S0}
-use Rattle.pages.specs.declared.Status.{Status}
-use Rattle.pages.specs.Pages.{lineOf, statusOf}
+use Rattle.pages.specs.Pages.{statusOf, Standing}
 use Rattle.lines.proofs.Words.{spare-meets, no-spare, at-none}
 use borrow.Author.Needs.{needs}
 use Rattle.lines.proofs.is_none.Statement.{statement}
@@ -38,7 +37,7 @@ line-requires c κs = search needs
 returns-3 : tie.Need-returns-3
 returns-3 c =
     let a = c .before .before .before .before .before .before .before .args in
-    ap (λ (k : ℕ). eqb k 0) (c .line .ensures ∙ ap (λ (s : Status). lineOf (s .state)) (c .before .status-of .ensures))
+    ap (λ (k : ℕ). eqb k 0) (c .line .ensures ∙ ap (λ (x : Standing). x .line) (c .before .status-of .ensures))
     ∙ at-none S0 (statusOf (a .left .now) (a .right .now) .state) refl
 
 pub is-none-spec : {M : Type 1} → statement M

@@ -20,27 +20,35 @@ left-3 : (c : tie.Else3) → let a = c .before .before .before .before .before .
     look table (a .left) (a .right) ≡ look (drop 3 table) (a .left) (a .right)
 left-3 c = left-2 (c .before .before .before) ∙ passed _ _ _ _ _ (c .before .is-row3 .ensures) (c .if3 .left)
 
-left-4 : (c : tie.Else4) → let a = c .before .before .before .before .before .before .before .before .before .before .before .before .args in
+left-4 : (c : tie.Else4) → let a = c .before .before .before .before .before .before .before .before .before .before
+    .before .before .args in
     look table (a .left) (a .right) ≡ look (drop 4 table) (a .left) (a .right)
 left-4 c = left-3 (c .before .before .before) ∙ passed _ _ _ _ _ (c .before .is-row4 .ensures) (c .if4 .left)
 
-left-5 : (c : tie.Else5) → let a = c .before .before .before .before .before .before .before .before .before .before .before .before .before .before .before .args in
+left-5 : (c : tie.Else5) → let a = c .before .before .before .before .before .before .before .before .before .before
+    .before .before .before .before .before .args in
     look table (a .left) (a .right) ≡ look (drop 5 table) (a .left) (a .right)
 left-5 c = left-4 (c .before .before .before) ∙ passed _ _ _ _ _ (c .before .is-row5 .ensures) (c .if5 .left)
 
-left-6 : (c : tie.Else6) → let a = c .before .before .before .before .before .before .before .before .before .before .before .before .before .before .before .before .before .before .args in
+left-6 : (c : tie.Else6) → let a = c .before .before .before .before .before .before .before .before .before .before
+    .before .before .before .before .before .before .before .before .args in
     look table (a .left) (a .right) ≡ look (drop 6 table) (a .left) (a .right)
 left-6 c = left-5 (c .before .before .before) ∙ passed _ _ _ _ _ (c .before .is-row6 .ensures) (c .if6 .left)
 
-left-7 : (c : tie.Else7) → let a = c .before .before .before .before .before .before .before .before .before .before .before .before .before .before .before .before .before .before .before .before .before .args in
+left-7 : (c : tie.Else7) → let a = c .before .before .before .before .before .before .before .before .before .before
+    .before .before .before .before .before .before .before .before .before .before .before .args in
     look table (a .left) (a .right) ≡ look (drop 7 table) (a .left) (a .right)
 left-7 c = left-6 (c .before .before .before) ∙ passed _ _ _ _ _ (c .before .is-row7 .ensures) (c .if7 .left)
 
-left-8 : (c : tie.Else8) → let a = c .before .before .before .before .before .before .before .before .before .before .before .before .before .before .before .before .before .before .before .before .before .before .before .before .args in
+left-8 : (c : tie.Else8) → let a = c .before .before .before .before .before .before .before .before .before .before
+    .before .before .before .before .before .before .before .before .before .before .before .before .before .before
+    .args in
     look table (a .left) (a .right) ≡ look (drop 8 table) (a .left) (a .right)
 left-8 c = left-7 (c .before .before .before) ∙ passed _ _ _ _ _ (c .before .is-row8 .ensures) (c .if8 .left)
 
-left-9 : (c : tie.Else9) → let a = c .before .before .before .before .before .before .before .before .before .before .before .before .before .before .before .before .before .before .before .before .before .before .before .before .before .before .before .args in
+left-9 : (c : tie.Else9) → let a = c .before .before .before .before .before .before .before .before .before .before
+    .before .before .before .before .before .before .before .before .before .before .before .before .before .before
+    .before .before .before .args in
     look table (a .left) (a .right) ≡ look (drop 9 table) (a .left) (a .right)
 left-9 c = left-8 (c .before .before .before) ∙ passed _ _ _ _ _ (c .before .is-row9 .ensures) (c .if9 .left)
 

@@ -1,6 +1,6 @@
 -- `pages::status_of` meets its contract: it looks up the words of the two pages. Assumes nothing.
-use mathlib.Core.Path.{_∙_}
-use Rattle.pages.specs.Pages.{statusOf}
+use mathlib.Core.Path.{ap, _∙_}
+use Rattle.pages.specs.Pages.{table, look, statusOf, standing}
 use borrow.Author.Needs.{needs}
 use Rattle.pages.proofs.status_of.Statement.{statement}
 use Rattle.pages.proofs.status_of.Tie as tie
@@ -16,7 +16,9 @@ look-up-requires c κs = search needs
 
 returns : tie.Need-returns
 unfolding statusOf
-returns c = c .look-up .ensures ∙ simp (c .before .before .word .ensures, c .before .word2 .ensures)
+returns c =
+    ap standing
+    (c .look-up .ensures ∙ (λ i. look table (c .before .before .word .ensures i) (c .before .word2 .ensures i)))
 
 pub status-of-spec : {M : Type 1} → statement M
 status-of-spec = tie.close (tie.spec word-requires word-requires-2 look-up-requires returns)

@@ -1,9 +1,8 @@
 -- `reads::locate` meets its contract: the check of the request comes first, then the live side. Assumes nothing.
-use mathlib.Core.Path.{sym, ap, _∙_}
-use Rattle.pages.specs.declared.Status.{Status}
+use mathlib.Core.Path.{sym, _∙_}
 use Rattle.requests.specs.Numbers.{numberIn}
 use Rattle.flash.proofs.Laws.{told}
-use Rattle.reads.proofs.Laws.{found-refused, found-none, found-on}
+use Rattle.reads.proofs.Laws.{found-live, found-refused, found-none, found-on}
 use borrow.Author.Needs.{needs}
 use Rattle.reads.proofs.locate.Statement.{statement}
 use Rattle.reads.proofs.locate.Tie as tie
@@ -36,14 +35,14 @@ returns-2 c =
     let at = c .before .before in
     found-none _ _ _ _
     (sym (told numberIn (at .before .enum-told .given .1) (at .before .before .before .check-request .ensures)))
-    (sym (ap (λ (s : Status). s .live) (at .status-of .ensures)) ∙ c .enum-told2 .given .1)
+    (found-live _ _ (at .status-of .result) (at .status-of .ensures) ∙ c .enum-told2 .given .1)
 
 returns-3 : tie.Need-returns-3
 returns-3 c =
     let at = c .before .before .before in
     found-on _ _ _ _ (c .before .live .given .0 .0)
     (sym (told numberIn (at .before .enum-told .given .1) (at .before .before .before .check-request .ensures)))
-    (sym (ap (λ (s : Status). s .live) (at .status-of .ensures)) ∙ c .before .live .given .1)
+    (found-live _ _ (at .status-of .result) (at .status-of .ensures) ∙ c .before .live .given .1)
 
 pub locate-spec : {M : Type 1} → statement M
 locate-spec =

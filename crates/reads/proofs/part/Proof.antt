@@ -37,12 +37,12 @@ part-result-end-2 c = search needs
 returns : tie.Need-returns
 returns c =
     let a = c .before .before .before .before .args in
-    side-part (a .left .now) (a .right .now) (a .offset .0) (a .len) (a .side) _ (c .before .enum-told .given .1)
+    side-part (a .left .now) (a .right .now) (a .offset) (a .len) (a .side) _ (c .before .enum-told .given .1)
 
 returns-2 : tie.Need-returns-2
 returns-2 c =
     let a = c .before .before .before .before .args in
-    side-part (a .left .now) (a .right .now) (a .offset .0) (a .len) (a .side) _ (c .before .enum-told2 .given .1)
+    side-part (a .left .now) (a .right .now) (a .offset) (a .len) (a .side) _ (c .before .enum-told2 .given .1)
 
 pub part-spec : {M : Type 1} → statement M
 part-spec =

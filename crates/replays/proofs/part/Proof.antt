@@ -14,7 +14,10 @@ part-result-end : tie.Need-part-result-end
 part-result-end c = search needs
 
 returns : tie.Need-returns
-returns c = let a = c .before .before .args in part-past (a .script .now) (a .start) (a .len) (c .before .if1 .taken)
+returns c = let a = c .before .before .args in part-past (a .script .now) (a .span) (c .before .if1 .taken)
+
+cast-size : tie.Need-cast-size
+cast-size c = search needs
 
 sub-if2 : tie.Need-sub-if2
 sub-if2 c = search needs
@@ -30,9 +33,7 @@ part-result-end-2 c = search needs
 
 returns-2 : tie.Need-returns-2
 returns-2 c =
-    let c3 = c .before .before .before in
-    let a = c3 .args in
-    part-rest (a .script .now) (a .start) (a .len) (c .before .if2 .taken)
+    let a = c .before .before .before .before .args in part-rest (a .script .now) (a .span) (c .before .if2 .taken)
 
 add-stop : tie.Need-add-stop
 add-stop c = search needs
@@ -47,7 +48,7 @@ part-result-end-3 : tie.Need-part-result-end-3
 part-result-end-3 c = search needs
 
 returns-3 : tie.Need-returns-3
-returns-3 c = let a = c .before .before .before .args in part-inside (a .script .now) (a .start) (a .len)
+returns-3 c = let a = c .before .before .before .before .args in part-inside (a .script .now) (a .span)
 
 pub part-spec : {M : Type 1} → statement M
 part-spec =
@@ -57,6 +58,7 @@ part-spec =
     part-result-start
     part-result-end
     returns
+    cast-size
     sub-if2
     sub-result-2
     part-result-start-2

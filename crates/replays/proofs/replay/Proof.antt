@@ -1,6 +1,9 @@
 -- `replays::replay` meets its contract: demand 3 of a script. Assumes nothing.
-use mathlib.Core.Path.{sym, _∙_}
-use Rattle.replays.proofs.Answered.{bytes-of, replay-done, replay-malformed, replay-no-room}
+use mathlib.Core.Path.{sym, ap, _∙_}
+use native.Mathlib.Omega.{arith}
+use Rattle.scripts.specs.declared.Verdict.the-variants.{Malformed, NoRoom}
+use Rattle.scripts.specs.Scripts.{Report, verdictIn}
+use Rattle.replays.proofs.Answered.{bytes-of, replay-done, replay-refused}
 use borrow.Author.Needs.{needs}
 use Rattle.replays.proofs.replay.Statement.{statement}
 use Rattle.replays.proofs.replay.Tie as tie
@@ -21,23 +24,23 @@ run-requires : tie.Need-run-requires
 run-requires c κs =
     let c3 = c .before .before .before in
     let c5 = c3 .before .before in
-    sym (c5 .check .ensures) ∙ c3 .enum-told .given .1
+    ap (λ (x : Report). x .status) (sym (c5 .check .ensures) ∙ ap verdictIn (c3 .enum-told .given .1))
 
 returns : tie.Need-returns
 returns c =
     let c3 = c .before .before .before in
-    let c8 = c3 .before .before .before .before .before in
-    let a = c8 .args in
-    replay-malformed (a .left .now) (a .right .now) (a .script .now) (a .out .now) _ (sym
-    (c .before .place .given .1) ∙ c3 .check .ensures)
+    let a = c3 .before .before .before .before .before .args in
+    replay-refused (a .left .now) (a .right .now) (a .script .now) (a .out .now) (c3 .check .result) (Malformed _)
+    (c3 .check .ensures)
+    (c .before .place .given .1) (λ z. absurd (omega arith))
 
 returns-2 : tie.Need-returns-2
 returns-2 c =
     let c3 = c .before .before .before in
-    let c8 = c3 .before .before .before .before .before in
-    let a = c8 .args in
-    replay-no-room (a .left .now) (a .right .now) (a .script .now) (a .out .now) _ (sym (c .before .place2 .given .1)
-    ∙ c3 .check .ensures)
+    let a = c3 .before .before .before .before .before .args in
+    replay-refused (a .left .now) (a .right .now) (a .script .now) (a .out .now) (c3 .check .result) (NoRoom _)
+    (c3 .check .ensures)
+    (c .before .place2 .given .1) (λ z. absurd (omega arith))
 
 same-length : tie.Need-same-length
 same-length c = search needs
@@ -56,12 +59,12 @@ returns-3 c =
     let c14 = c12 .before .before in
     let c15 = c14 .before in
     let c16 = c15 .before in
-    let c17 = c16 .before in
-    let a = c17 .args in
-    replay-done (a .left .now) (a .right .now) (a .script .now) (a .out .now) _ _ _ (bytes-of (a .left .now)
-    (c16 .slice-known .given))
+    let a = c16 .before .args in
+    replay-done (a .left .now) (a .right .now) (a .script .now) (a .out .now) _ _ _
+    (bytes-of (a .left .now) (c16 .slice-known .given))
     (bytes-of (a .right .now) (c15 .slice-known2 .given)) (bytes-of (a .script .now) (c14 .shared-slice-known .given))
-    (sym (c12 .check .ensures) ∙ c10 .enum-told .given .1) (c6 .run .ensures)
+    (ap (λ (x : Report). x .status) (sym (c12 .check .ensures) ∙ ap verdictIn (c10 .enum-told .given .1)))
+    (c6 .run .ensures)
 
 pub replay-spec : {M : Type 1} → statement M
 replay-spec =

@@ -4,28 +4,27 @@ use Prim.Native.Nat.{_-_, _≤_}
 use mathlib.Core.Path.{_≡_, refl, _∙_}
 use native.Mathlib.Omega.{arith}
 use lib.ListN.{length}
+use mir.Facts.{fits-le}
 use Rattle.model.specs.Board.{powered}
 use Rattle.scripts.specs.Scripts.{checked}
-use Rattle.replays.specs.Replays.{callsFrom}
 use Rattle.replays.specs.Runs.{running, ordersOf}
-use Rattle.replays.proofs.Running.{runIn}
-use Rattle.replays.proofs.Ahead.{Ahead, ahead, ahead-from, pass, at-end}
-use borrow.Author.Needs.{needs}
+use Rattle.replays.proofs.Output.{within}
+use Rattle.replays.proofs.Ahead.{runIn, Ahead, ahead, ahead-from, less-ahead, pass, at-end}
 use Rattle.replays.proofs.run.Statement.{statement}
 use Rattle.replays.proofs.run.Tie as tie
 
 abbrev Inv-loop : tie.InvT-loop
-Inv-loop left₀ right₀ script out₀ hand₀ place₀ at₀ left right out hand place at =
+Inv-loop left₀ right₀ script out₀ ran₀ place₀ left right out ran place =
     (place ≤ length script)
     × (length left ≡ length left₀)
     × (length right ≡ length right₀)
     × (length out ≡ length out₀)
-    × Ahead script place (length out₀) (runIn script hand left right out at)
-    (running (callsFrom (powered left₀ right₀) (ordersOf (checked script (length out₀))))
+    × Ahead script place (length out₀) (runIn script ran left right out)
+    (running (ordersOf (checked script (length out₀)))
     (record { board = powered left₀ right₀; output = record { out = out₀; at = 0 } }))
 
 abbrev μ-loop : tie.MeasureT-loop
-μ-loop left₀ right₀ script out₀ hand₀ place₀ at₀ left right out hand place at = length script - place
+μ-loop left₀ right₀ script out₀ ran₀ place₀ left right out ran place = length script - place
 
 loop-holds : tie.Need-loop-holds Inv-loop μ-loop
 loop-holds c =
@@ -42,10 +41,10 @@ loop-holds c =
     )
 
 item-at-requires : tie.Need-item-at-requires Inv-loop μ-loop
-item-at-requires c κs = search needs
+item-at-requires c κs = tt
 
 size-requires : tie.Need-size-requires Inv-loop μ-loop
-size-requires c κs = search needs
+size-requires c κs = tt
 
 run-item-requires : tie.Need-run-item-requires Inv-loop μ-loop
 run-item-requires c κs =
@@ -53,14 +52,13 @@ run-item-requires c κs =
     let c4 = c3 .before in
     let c5 = c4 .before in
     let c6 = c5 .before in
-    let c11 = c6 .before .before .before .before .before in
-    let a = c11 .args in
+    let a = c6 .before .before .before .before .before .args in
     let loop = c6 .loop in
     let p =
     pass (a .script .now) (loop .place) (length (a .out .now)) (c3 .size .result) (c4 .item-at .result)
-    (runIn (a .script .now) (loop .hand) (loop .left) (loop .right) (loop .out) (loop .at)) _ (c5 .loop-test .taken)
+    (runIn (a .script .now) (loop .ran) (loop .left) (loop .right) (loop .out)) _ (c5 .loop-test .taken)
     (c4 .item-at .ensures) (c3 .size .ensures) (loop .inv .4) in
-    (p .nine, omega (arith, p .has, loop .inv .3))
+    (p .nine, within (p .has) (loop .inv .3))
 
 add-place : tie.Need-add-place Inv-loop μ-loop
 add-place c =
@@ -73,9 +71,9 @@ add-place c =
     let loop = c13 .loop in
     let p =
     pass (a .script .now) (loop .place) (length (a .out .now)) (c10 .size .result) (c11 .item-at .result)
-    (runIn (a .script .now) (loop .hand) (loop .left) (loop .right) (loop .out) (loop .at)) _ (c12 .loop-test .taken)
+    (runIn (a .script .now) (loop .ran) (loop .left) (loop .right) (loop .out)) _ (c12 .loop-test .taken)
     (c11 .item-at .ensures) (c10 .size .ensures) (loop .inv .4) in
-    omega (arith, p .inside)
+    fits-le (p .inside) (record { fits = c18 .good .1 .1 .0 .0 })
 
 loop-less : tie.Need-loop-less Inv-loop μ-loop
 loop-less c =
@@ -83,14 +81,13 @@ loop-less c =
     let c11 = c10 .before in
     let c12 = c11 .before in
     let c13 = c12 .before in
-    let c18 = c13 .before .before .before .before .before in
-    let a = c18 .args in
+    let a = c13 .before .before .before .before .before .args in
     let loop = c13 .loop in
     let p =
     pass (a .script .now) (loop .place) (length (a .out .now)) (c10 .size .result) (c11 .item-at .result)
-    (runIn (a .script .now) (loop .hand) (loop .left) (loop .right) (loop .out) (loop .at)) _ (c12 .loop-test .taken)
+    (runIn (a .script .now) (loop .ran) (loop .left) (loop .right) (loop .out)) _ (c12 .loop-test .taken)
     (c11 .item-at .ensures) (c10 .size .ensures) (loop .inv .4) in
-    omega (arith, p .inside, p .more)
+    less-ahead (length (a .script .now)) (loop .place) (c10 .size .result) (p .inside) (p .more)
 
 loop-again : tie.Need-loop-again Inv-loop μ-loop
 loop-again c =
@@ -99,12 +96,11 @@ loop-again c =
     let c11 = c10 .before in
     let c12 = c11 .before in
     let c13 = c12 .before in
-    let c18 = c13 .before .before .before .before .before in
-    let a = c18 .args in
+    let a = c13 .before .before .before .before .before .args in
     let loop = c13 .loop in
     let p =
     pass (a .script .now) (loop .place) (length (a .out .now)) (c10 .size .result) (c11 .item-at .result)
-    (runIn (a .script .now) (loop .hand) (loop .left) (loop .right) (loop .out) (loop .at)) _ (c12 .loop-test .taken)
+    (runIn (a .script .now) (loop .ran) (loop .left) (loop .right) (loop .out)) _ (c12 .loop-test .taken)
     (c11 .item-at .ensures) (c10 .size .ensures) (loop .inv .4) in
     let item = c6 .run-item in (
       p .inside,

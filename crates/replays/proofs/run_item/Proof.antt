@@ -1,356 +1,219 @@
--- `replays::run_item` meets its contract: kind by kind. Assumes nothing.
-use Prim.Native.Nat.{ℕ, _+_}
-use mathlib.Core.Path.{refl, ap, _∙_}
-use mathlib.Core.List.{List}
-use native.Mathlib.Omega.{arith}
-use lib.ListN.{length, replicate}
-use Rattle.model.specs.Calls as C
-use Rattle.replays.specs.Runs.{boardIn, running}
-use Rattle.replays.proofs.Turns.{save-turned, format-turned, cut-turned, held-here}
-use Rattle.replays.proofs.Output.{part-most}
-use Rattle.replays.proofs.Running.{runIn, next-run, read-run, into-run, item-room, item-run}
-use borrow.Author.Needs.{needs}
+-- `replays::run_item` meets its contract: one call of the engine, by the laws of Made.antt. Assumes nothing.
+use Prim.Native.Nat.{_+_, _-_}
+use mathlib.Core.Path.{_∙_}
+use native.Mathlib.Nat.{le-add-right}
+use lib.ListN.{length}
+use mir.Facts.{fits-le}
+use borrow.Rule.Slice.PartMut.{same-len-mid}
+use Rattle.replays.proofs.Output.{within}
+use Rattle.replays.proofs.Made.{output-room, left-by, left-room, left-end, left-run}
 use Rattle.replays.proofs.run_item.Statement.{statement}
 use Rattle.replays.proofs.run_item.Tie as tie
 
-add-start : tie.Need-add-start
-add-start c = search needs
+add-job-of : tie.Need-add-job-of
+add-job-of c =
+    let c4 = c .before .before .before .before in
+    fits-le (c4 .pre .0) (record { fits = c4 .good .1 .1 .1 .1 .1 .0 .0 })
 
-enum-known-item : tie.Need-enum-known-item
-enum-known-item c = search needs
+job-of-requires : tie.Need-job-of-requires
+job-of-requires c κs = tt
 
 part-requires : tie.Need-part-requires
-part-requires c κs = search needs
+part-requires c κs = tt
 
-save-requires : tie.Need-save-requires
-save-requires c κs = search needs
+add-start : tie.Need-add-start
+add-start c =
+    let c2 = c .before .before in
+    let c3 = c2 .before in
+    let c8 = c3 .before .before .before .before .before in
+    let a = c8 .args in
+    let job = c3 .job-of in
+    let given = c2 .part in
+    let room =
+    output-room (a .script .now) (a .place) (a .place + 9) (a .ran .at) (length (a .out .now)) _ (job .result)
+    (a .item) (given .result .now) (job .ensures) (given .ensures) (c8 .pre .1) in
+    fits-le (room .0) (record { fits = c8 .good .1 .1 .1 .1 .1 .1 .0 .0 })
 
-begun-turn-requires : tie.Need-begun-turn-requires
-begun-turn-requires c κs = search needs
+add-stop : tie.Need-add-stop
+add-stop c =
+    let c2 = c .before .before in
+    let c3 = c2 .before in
+    let c8 = c3 .before .before .before .before .before in
+    let a = c8 .args in
+    let job = c3 .job-of in
+    let given = c2 .part in
+    let room =
+    output-room (a .script .now) (a .place) (a .place + 9) (a .ran .at) (length (a .out .now)) _ (job .result)
+    (a .item) (given .result .now) (job .ensures) (given .ensures) (c8 .pre .1) in
+    fits-le (room .1) (record { fits = c8 .good .1 .1 .1 .1 .1 .1 .0 .0 })
 
-put-turn-requires : tie.Need-put-turn-requires
-put-turn-requires c κs =
-    let c7 = c .before .before .before .before .before .before .before in
-    let c13 = c7 .before .before .before .before .before .before in
-    let a = c13 .args in
-    omega (
-      arith,
-      item-room (a .script .now) (a .place) (a .at) (length (a .out .now)) (a .item) _
-          (c7 .item .given .1) (c13 .pre .1),
-    )
-
-enum-told : tie.Need-enum-told
-enum-told c = search needs
-
-format-requires : tie.Need-format-requires
-format-requires c κs = search needs
-
-begun-turn-requires-2 : tie.Need-begun-turn-requires-2
-begun-turn-requires-2 c κs = search needs
-
-put-turn-requires-2 : tie.Need-put-turn-requires-2
-put-turn-requires-2 c κs =
-    let c5 = c .before .before .before .before .before in
-    let c11 = c5 .before .before .before .before .before .before in
-    let a = c11 .args in
-    omega (
-      arith,
-      item-room (a .script .now) (a .place) (a .at) (length (a .out .now)) (a .item) _
-          (c5 .enum-told .given .1) (c11 .pre .1),
-    )
-
-enum-known-item-2 : tie.Need-enum-known-item-2
-enum-known-item-2 c = search needs
-
-held-span-requires : tie.Need-held-span-requires
-held-span-requires c κs = search needs
-
-run-steps-requires : tie.Need-run-steps-requires
-run-steps-requires c κs =
-    let c5 = c .before .before .before .before .before in
-    let c11 = c5 .before .before .before .before .before .before in
-    let a = c11 .args in
-    omega (
-      arith,
-      item-room (a .script .now) (a .place) (a .at) (length (a .out .now)) (a .item) _
-          (c5 .item2 .given .1) (c11 .pre .1),
-    )
-
-enum-known-item-3 : tie.Need-enum-known-item-3
-enum-known-item-3 c = search needs
-
-run-steps-requires-2 : tie.Need-run-steps-requires-2
-run-steps-requires-2 c κs =
-    let c4 = c .before .before .before .before in
-    let c10 = c4 .before .before .before .before .before .before in
-    let a = c10 .args in
-    omega (
-      arith,
-      item-room (a .script .now) (a .place) (a .at) (length (a .out .now)) (a .item) _
-          (c4 .item3 .given .1) (c10 .pre .1),
-    )
-
-enum-known-item-4 : tie.Need-enum-known-item-4
-enum-known-item-4 c = search needs
-
-run-read-requires : tie.Need-run-read-requires
-run-read-requires c κs =
-    let c4 = c .before .before .before .before in
-    let c10 = c4 .before .before .before .before .before .before in
-    let a = c10 .args in
-    omega (
-      arith,
-      item-room (a .script .now) (a .place) (a .at) (length (a .out .now)) (a .item) _
-          (c4 .item4 .given .1) (c10 .pre .1),
-    )
-
-enum-known-item-5 : tie.Need-enum-known-item-5
-enum-known-item-5 c = search needs
+put-part-requires : tie.Need-put-part-requires
+put-part-requires c κs =
+    let c3 = c .before .before .before in
+    let c4 = c3 .before in
+    let c9 = c4 .before .before .before .before .before in
+    let a = c9 .args in
+    let job = c4 .job-of in
+    let given = c3 .part in
+    let room =
+    output-room (a .script .now) (a .place) (a .place + 9) (a .ran .at) (length (a .out .now)) _ (job .result)
+    (a .item) (given .result .now) (job .ensures) (given .ensures) (c9 .pre .1) in
+    room .1
 
 part-requires-2 : tie.Need-part-requires-2
-part-requires-2 c κs = search needs
+part-requires-2 c κs = tt
 
-run-read-into-requires : tie.Need-run-read-into-requires
-run-read-into-requires c κs =
-    let c5 = c .before .before .before .before .before in
-    let c11 = c5 .before .before .before .before .before .before in
-    let a = c11 .args in
-    let room = item-room (a .script .now) (a .place) (a .at) (length (a .out .now)) (a .item) _ (c5 .item5 .given .1)
-    (c11 .pre .1) in
-    let size = part-most _ (a .script .now) (a .place + 9) (c5 .item5 .given .0 .1 .0) (c .before .part2 .ensures) in
-    omega (arith, room, size)
+part-requires-3 : tie.Need-part-requires-3
+part-requires-3 c κs = tt
 
-enum-told-2 : tie.Need-enum-told-2
-enum-told-2 c = search needs
+sub-make : tie.Need-sub-make
+sub-make c = le-add-right _ _
 
-put-turn-requires-3 : tie.Need-put-turn-requires-3
-put-turn-requires-3 c κs =
-    let c7 = c .before .before .before .before .before .before .before in
-    let a = c7 .args in
-    omega (
-      arith,
-      item-room (a .script .now) (a .place) (a .at) (length (a .out .now)) (a .item) _
-          (c .before .enum-told2 .given .1) (c7 .pre .1),
-    )
+part-make-start : tie.Need-part-make-start
+part-make-start c = le-add-right _ _
 
-enum-told-3 : tie.Need-enum-told-3
-enum-told-3 c = search needs
+part-make-end : tie.Need-part-make-end
+part-make-end c =
+    let c6 = c .before .before .before .before .before .before in
+    let c10 = c6 .before .before .before .before in
+    let c11 = c10 .before in
+    let c16 = c11 .before .before .before .before .before in
+    let a = c16 .args in
+    let job = c11 .job-of in
+    let given = c10 .part in
+    let room =
+    output-room (a .script .now) (a .place) (a .place + 9) (a .ran .at) (length (a .out .now)) _ (job .result)
+    (a .item) (given .result .now) (job .ensures) (given .ensures) (c16 .pre .1) in
+    within (room .1) (c6 .put-part .kept .0)
+
+make-requires : tie.Need-make-requires
+make-requires c κs = tt
+
+reply-of-requires : tie.Need-reply-of-requires
+reply-of-requires c κs = tt
+
+put-replies-requires : tie.Need-put-replies-requires
+put-replies-requires c κs =
+    let c3 = c .before .before .before in
+    let c10 = c3 .before .before .before .before .before .before .before in
+    let c14 = c10 .before .before .before .before in
+    let c15 = c14 .before in
+    let c18 = c15 .before .before .before in
+    let c22 = c18 .before .before .before .before in
+    let c23 = c22 .before in
+    let c28 = c23 .before .before .before .before .before in
+    let a = c28 .args in
+    let ran = a .ran in
+    let job = c23 .job-of in
+    let make = c10 .make in
+    let given = c22 .part in
+    let z =
+    left-by (a .script .now) (a .place) (ran .at) (ran .held) (job .result) (make .result) (ran .hand) (a .item)
+    (c15 .part2 .result .now) (c14 .part3 .result .now) (a .left .now) (a .right .now) _ _ (given .result .now)
+    (a .out .now) _ _ (job .ensures) (given .ensures) (c15 .part2 .ensures) (c14 .part3 .ensures)
+    (c28 .pre .1) (c18 .put-part .ensures) (make .kept .1 .1 .1 .1 .1 .1 .0) (make .ensures) in
+    (z .done .count, left-room (c3 .reply-of .result) z (c3 .reply-of .ensures))
+
+add-after : tie.Need-add-after
+add-after c =
+    let c2 = c .before .before in
+    let c6 = c2 .before .before .before .before in
+    let c13 = c6 .before .before .before .before .before .before .before in
+    let c17 = c13 .before .before .before .before in
+    let c18 = c17 .before in
+    let c21 = c18 .before .before .before in
+    let c25 = c21 .before .before .before .before in
+    let c26 = c25 .before in
+    let c31 = c26 .before .before .before .before .before in
+    let a = c31 .args in
+    let ran = a .ran in
+    let job = c26 .job-of in
+    let make = c13 .make in
+    let given = c25 .part in
+    let z =
+    left-by (a .script .now) (a .place) (ran .at) (ran .held) (job .result) (make .result) (ran .hand) (a .item)
+    (c18 .part2 .result .now) (c17 .part3 .result .now) (a .left .now) (a .right .now) _ _ (given .result .now)
+    (a .out .now) _ _ (job .ensures) (given .ensures) (c18 .part2 .ensures) (c17 .part3 .ensures)
+    (c31 .pre .1) (c21 .put-part .ensures) (make .kept .1 .1 .1 .1 .1 .1 .0) (make .ensures) in
+    let end = left-end (c6 .reply-of .result) _ z (c6 .reply-of .ensures) (c2 .put-replies .ensures) in
+    fits-le end (record { fits = c31 .good .1 .1 .1 .1 .1 .1 .0 .0 })
+
+held-after-requires : tie.Need-held-after-requires
+held-after-requires c κs = tt
 
 same-length : tie.Need-same-length
-same-length c = search needs
+same-length c =
+    let c7 = c .before .before .before .before .before .before .before in
+    let c14 = c7 .before .before .before .before .before .before .before in
+    c14 .make .kept .1 .1 .1 .1 .0
 
 same-length-2 : tie.Need-same-length-2
-same-length-2 c = search needs
+same-length-2 c =
+    let c7 = c .before .before .before .before .before .before .before in
+    let c14 = c7 .before .before .before .before .before .before .before in
+    c14 .make .kept .1 .1 .1 .1 .1 .0
 
 same-length-3 : tie.Need-same-length-3
-same-length-3 c = search needs
+same-length-3 c =
+    let c3 = c .before .before .before in
+    let c14 = c3 .before .before .before .before .before .before .before .before .before .before .before in
+    let c22 = c14 .before .before .before .before .before .before .before .before in
+    let c26 = c22 .before .before .before .before in
+    let c27 = c26 .before in
+    let c32 = c27 .before .before .before .before .before in
+    let make = c14 .make in
+    let start = c32 .args .ran .at + c27 .job-of .result .lead in
+    let size = start + length (c26 .part .result .now) - start in
+    c3 .put-replies .kept .1 .1 .1 .1 .1 .0
+    ∙ same-len-mid start size (c22 .put-part .last .0) (make .last .1 .1 .1 .1 .1 .1 .0)
+    (make .kept .1 .1 .1 .1 .1 .1 .0)
+    ∙ c22 .put-part .kept .0
 
 returns : tie.Need-returns
-unfolding running
 returns c =
-    let c2 = c .before .before in
-    let c4 = c2 .before .before in
-    let c5 = c4 .before in
-    let c6 = c5 .before in
-    let c10 = c6 .before .before .before .before in
-    let c16 = c10 .before .before .before .before .before .before in
-    let a = c16 .args in
-    item-run (a .script .now) (a .place) (a .item) _ (runIn (a .script .now) (a .hand) (a .left .now) (a .right .now)
-    (a .out .now) (a .at)) _ (c10 .item .given .1)
-    (next-run (a .script .now) (a .left .now) (a .right .now) (a .left .now) (a .right .now) (a .out .now) _
-    (a .hand) _ _ (a .at) _
-    (save-turned (a .script .now) (a .left .now) (a .right .now) _ (a .hand) (c5 .save .result)
-    (c10 .item .given .0 .0) (a .place + 9) (c10 .item .given .0 .1 .0) _ (c6 .part .ensures) (c5 .save .ensures)
-    (c4 .begun-turn .ensures)) (c2 .put-turn .ensures .1) (c2 .put-turn .ensures .0))
-
-same-length-4 : tie.Need-same-length-4
-same-length-4 c = search needs
-
-same-length-5 : tie.Need-same-length-5
-same-length-5 c = search needs
-
-same-length-6 : tie.Need-same-length-6
-same-length-6 c = search needs
-
-returns-2 : tie.Need-returns-2
-unfolding running
-returns-2 c =
-    let c2 = c .before .before in
-    let c4 = c2 .before .before in
-    let c5 = c4 .before in
-    let c8 = c5 .before .before .before in
-    let c14 = c8 .before .before .before .before .before .before in
-    let a = c14 .args in
-    item-run (a .script .now) (a .place) (a .item) _ (runIn (a .script .now) (a .hand) (a .left .now) (a .right .now)
-    (a .out .now) (a .at)) _ (c8 .enum-told .given .1)
-    (next-run (a .script .now) (a .left .now) (a .right .now) (a .left .now) (a .right .now) (a .out .now) _
-    (a .hand) _ _ (a .at) _
-    (format-turned (a .script .now) (a .left .now) (a .right .now) (a .hand) (c5 .format .result) (a .place + 9) _
-    (c5 .format .ensures) (c4 .begun-turn2 .ensures)) (c2 .put-turn2 .ensures .1) (c2 .put-turn2 .ensures .0))
-
-same-length-7 : tie.Need-same-length-7
-same-length-7 c = search needs
-
-same-length-8 : tie.Need-same-length-8
-same-length-8 c = search needs
-
-same-length-9 : tie.Need-same-length-9
-same-length-9 c = search needs
-
-returns-3 : tie.Need-returns-3
-unfolding running
-returns-3 c =
-    let c6 = c .before .before .before .before .before .before in
-    let c10 = c6 .before .before .before .before in
-    let c12 = c10 .before .before in
-    let c18 = c12 .before .before .before .before .before .before in
-    let a = c18 .args in
-    item-run (a .script .now) (a .place) (a .item) _ (runIn (a .script .now) (a .hand) (a .left .now) (a .right .now)
-    (a .out .now) (a .at)) _ (c12 .item2 .given .1)
-    (c6 .run-steps .ensures ∙ ap (λ (d : List ℕ). running (replicate (c12 .item2 .given .0 .0) (C.step d)) (runIn
-    (a .script .now) (a .hand) (a .left .now) (a .right .now) (a .out .now) (a .at))) (held-here (a .script .now)
-    (a .hand) _ (c10 .held-span .ensures)))
-
-same-length-10 : tie.Need-same-length-10
-same-length-10 c = search needs
-
-same-length-11 : tie.Need-same-length-11
-same-length-11 c = search needs
-
-same-length-12 : tie.Need-same-length-12
-same-length-12 c = search needs
-
-returns-4 : tie.Need-returns-4
-unfolding running
-returns-4 c =
-    let c6 = c .before .before .before .before .before .before in
-    let c11 = c6 .before .before .before .before .before in
-    let c17 = c11 .before .before .before .before .before .before in
-    let a = c17 .args in
-    item-run (a .script .now) (a .place) (a .item) _ (runIn (a .script .now) (a .hand) (a .left .now) (a .right .now)
-    (a .out .now) (a .at)) _ (c11 .item3 .given .1)
-    (c6 .run-steps2 .ensures)
-
-same-length-13 : tie.Need-same-length-13
-same-length-13 c = search needs
-
-same-length-14 : tie.Need-same-length-14
-same-length-14 c = search needs
-
-same-length-15 : tie.Need-same-length-15
-same-length-15 c = search needs
-
-returns-5 : tie.Need-returns-5
-unfolding running
-returns-5 c =
-    let c2 = c .before .before in
-    let c7 = c2 .before .before .before .before .before in
-    let c13 = c7 .before .before .before .before .before .before in
-    let a = c13 .args in
-    item-run (a .script .now) (a .place) (a .item) _ (runIn (a .script .now) (a .hand) (a .left .now) (a .right .now)
-    (a .out .now) (a .at)) _ (c7 .item4 .given .1)
-    (read-run (boardIn (a .script .now) (a .hand) (a .left .now) (a .right .now)) (a .out .now) (a .at) _ _ _
-    (c2 .run-read .ensures))
-
-same-length-16 : tie.Need-same-length-16
-same-length-16 c = search needs
-
-same-length-17 : tie.Need-same-length-17
-same-length-17 c = search needs
-
-same-length-18 : tie.Need-same-length-18
-same-length-18 c = search needs
-
-returns-6 : tie.Need-returns-6
-unfolding running
-returns-6 c =
-    let c2 = c .before .before in
-    let c4 = c2 .before .before in
-    let c8 = c4 .before .before .before .before in
-    let c14 = c8 .before .before .before .before .before .before in
-    let a = c14 .args in
-    item-run (a .script .now) (a .place) (a .item) _ (runIn (a .script .now) (a .hand) (a .left .now) (a .right .now)
-    (a .out .now) (a .at)) _ (c8 .item5 .given .1)
-    (into-run (boardIn (a .script .now) (a .hand) (a .left .now) (a .right .now)) (a .out .now) (a .at) _ _ _ _
-    (c4 .part2 .ensures) (c2 .run-read-into .ensures))
-
-same-length-19 : tie.Need-same-length-19
-same-length-19 c = search needs
-
-returns-7 : tie.Need-returns-7
-unfolding running
-returns-7 c =
-    let c2 = c .before .before in
-    let c4 = c2 .before .before in
-    let c10 = c4 .before .before .before .before .before .before in
-    let a = c10 .args in
-    item-run (a .script .now) (a .place) (a .item) _ (runIn (a .script .now) (a .hand) (a .left .now) (a .right .now)
-    (a .out .now) (a .at)) _ (c4 .enum-told2 .given .1)
-    (next-run (a .script .now) (a .left .now) (a .right .now) (a .left .now) (a .right .now) (a .out .now) _
-    (a .hand) _ _ (a .at) _
-    (cut-turned (a .script .now) (a .left .now) (a .right .now) (a .hand)) (c2 .put-turn3 .ensures .1)
-    (c2 .put-turn3 .ensures .0))
-
-returns-8 : tie.Need-returns-8
-unfolding running
-returns-8 c =
-    let c6 = c .before .before .before .before .before .before in
-    let a = c6 .args in
-    item-run (a .script .now) (a .place) (a .item) _ (runIn (a .script .now) (a .hand) (a .left .now) (a .right .now)
-    (a .out .now) (a .at)) _ (c .enum-told3 .given .1)
-    (refl)
+    let c3 = c .before .before .before in
+    let c7 = c3 .before .before .before .before in
+    let c14 = c7 .before .before .before .before .before .before .before in
+    let c18 = c14 .before .before .before .before in
+    let c19 = c18 .before in
+    let c22 = c19 .before .before .before in
+    let c26 = c22 .before .before .before .before in
+    let c27 = c26 .before in
+    let c32 = c27 .before .before .before .before .before in
+    let a = c32 .args in
+    let ran = a .ran in
+    let job = c27 .job-of in
+    let make = c14 .make in
+    let given = c26 .part in
+    let z =
+    left-by (a .script .now) (a .place) (ran .at) (ran .held) (job .result) (make .result) (ran .hand) (a .item)
+    (c19 .part2 .result .now) (c18 .part3 .result .now) (a .left .now) (a .right .now) _ _ (given .result .now)
+    (a .out .now) _ _ (job .ensures) (given .ensures) (c19 .part2 .ensures) (c18 .part3 .ensures)
+    (c32 .pre .1) (c22 .put-part .ensures) (make .kept .1 .1 .1 .1 .1 .1 .0) (make .ensures) in
+    left-run (c7 .reply-of .result) (c .held-after .result) _ z (c7 .reply-of .ensures) (c .held-after .ensures)
+    (c3 .put-replies .ensures)
 
 pub run-item-spec : {M : Type 1} → statement M
 run-item-spec =
     tie.close
     (tie.spec
-    add-start
-    enum-known-item
+    add-job-of
+    job-of-requires
     part-requires
-    save-requires
-    begun-turn-requires
-    put-turn-requires
-    enum-told
-    format-requires
-    begun-turn-requires-2
-    put-turn-requires-2
-    enum-known-item-2
-    held-span-requires
-    run-steps-requires
-    enum-known-item-3
-    run-steps-requires-2
-    enum-known-item-4
-    run-read-requires
-    enum-known-item-5
+    add-start
+    add-stop
+    put-part-requires
     part-requires-2
-    run-read-into-requires
-    enum-told-2
-    put-turn-requires-3
-    enum-told-3
+    part-requires-3
+    sub-make
+    part-make-start
+    part-make-end
+    make-requires
+    reply-of-requires
+    put-replies-requires
+    add-after
+    held-after-requires
     same-length
     same-length-2
     same-length-3
-    returns
-    same-length-4
-    same-length-5
-    same-length-6
-    returns-2
-    same-length-7
-    same-length-8
-    same-length-9
-    returns-3
-    same-length-10
-    same-length-11
-    same-length-12
-    returns-4
-    same-length-13
-    same-length-14
-    same-length-15
-    returns-5
-    same-length-16
-    same-length-17
-    same-length-18
-    returns-6
-    same-length-19
-    returns-7
-    returns-8)
+    returns)

@@ -4,7 +4,7 @@ use Prim.Native.Nat.{_+_, _-_, _≤_}
 use mathlib.Core.Path.{_≡_, refl, sym, ap, _∙_}
 use native.Mathlib.Omega.{arith}
 use lib.ListN.{length, drop}
-use Rattle.scripts.specs.Scripts.{verdictOf, checkedFrom, checked}
+use Rattle.scripts.specs.Scripts.{found, checkedFrom, checked}
 use Rattle.scripts.proofs.Laws.{check-bad, check-full, check-on, check-end}
 use borrow.Author.Needs.{needs}
 use Rattle.scripts.proofs.check.Statement.{statement}
@@ -13,7 +13,7 @@ use Rattle.scripts.proofs.check.Tie as tie
 abbrev Inv-loop : tie.InvT-loop
 Inv-loop script room at₀ left₀ at left =
     (at ≤ length script)
-    × (verdictOf (checkedFrom 0 at left (drop at script)) ≡ verdictOf (checked script room))
+    × (found (checkedFrom 0 at left (drop at script)) ≡ found (checked script room))
 
 abbrev μ-loop : tie.MeasureT-loop
 μ-loop script room at₀ left₀ at left = length script - at
@@ -55,8 +55,8 @@ onward : (c : tie.Else2 Inv-loop μ-loop)
     let s = at .before .before .args .script .now in
     let n = c .before .before .before .size .result in
     (at .loop .at + n ≤ length s)
-    × (verdictOf (checkedFrom 0 (at .loop .at) (at .loop .left) (drop (at .loop .at) s))
-    ≡ verdictOf (checkedFrom 0 (at .loop .at + n) (at .loop .left - c .before .before .room .result) (drop
+    × (found (checkedFrom 0 (at .loop .at) (at .loop .left) (drop (at .loop .at) s))
+    ≡ found (checkedFrom 0 (at .loop .at + n) (at .loop .left - c .before .before .room .result) (drop
     (at .loop .at + n) s)))
 onward c =
     let at = c .before .before .before .before .before in
@@ -79,7 +79,7 @@ returns-3 : tie.Need-returns-3 Inv-loop μ-loop
 returns-3 c =
     let at = c .before in
     let s = at .before .before .args .script .now in
-    sym (ap verdictOf (check-end s (at .loop .at) (at .loop .left) (c .loop-test .left))) ∙ at .loop .inv .1
+    sym (ap found (check-end s (at .loop .at) (at .loop .left) (c .loop-test .left))) ∙ at .loop .inv .1
 
 pub check-spec : {M : Type 1} → statement M
 check-spec =

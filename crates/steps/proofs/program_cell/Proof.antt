@@ -1,4 +1,4 @@
--- `steps::program_cell` meets its contract: a cell of the image that is lent is the cell 4 bytes on. Assumes nothing.
+-- `steps::program_cell` meets its contract: the image is lent, and comes back to its place. Assumes nothing.
 use native.Mathlib.Omega.{arith}
 use Rattle.steps.proofs.Laws.{image-back, no-image}
 use borrow.Author.Needs.{needs}
@@ -11,7 +11,7 @@ cast-start c = search needs
 returns : tie.Need-returns
 returns c =
     let a = c .before .before .args in
-    no-image (a .page .now) (a .at .0) (a .value) (omega arith)
+    no-image (a .page .now) (a .at) (a .value) (omega arith)
 
 sub-program-image : tie.Need-sub-program-image
 sub-program-image c = search needs
@@ -31,7 +31,7 @@ same-length c = search needs
 returns-2 : tie.Need-returns-2
 returns-2 c =
     let a = c .before .before .before .before .before .before .args in
-    image-back (a .page .now) _ _ (a .at .0) (a .value) (omega arith) (c .before .before .program-image .ensures)
+    image-back (a .page .now) _ _ (a .at) (a .value) (c .before .before .program-image .ensures)
 
 pub program-cell-spec : {M : Type 1} → statement M
 program-cell-spec =

@@ -11,17 +11,20 @@ use Rattle.verdicts.proofs.is_new.Statement.{statement}
 use Rattle.verdicts.proofs.is_new.Tie as tie
 
 abbrev Inv-loop : tie.InvT-loop
-Inv-loop image old start «data» i₀ i-end i =
-    (i ≤ length image) × (isNew (drop i image) old start «data» i ≡ isNew image old start «data» 0)
+Inv-loop image old offset «data» i₀ i-end i =
+    (i ≤ length image) × (isNew (drop i image) old offset «data» i ≡ isNew image old offset «data» 0)
 
 abbrev μ-loop : tie.MeasureT-loop
-μ-loop image old start «data» i₀ i-end i = length image - i
+μ-loop image old offset «data» i₀ i-end i = length image - i
 
 loop-holds : tie.Need-loop-holds Inv-loop μ-loop
 loop-holds c = (omega arith, refl)
 
 shared-slice-read-if1 : tie.Need-shared-slice-read-if1 Inv-loop μ-loop
 shared-slice-read-if1 c = search needs
+
+cast-t11 : tie.Need-cast-t11 Inv-loop μ-loop
+cast-t11 c = omega arith
 
 new-byte-requires : tie.Need-new-byte-requires Inv-loop μ-loop
 new-byte-requires c κs = search needs
@@ -30,7 +33,7 @@ returns : tie.Need-returns Inv-loop μ-loop
 returns c =
     let loop = c .before .before .before .before in
     let a = loop .before .before .before .before .args in
-    new-stop (a .image .now) (a .old .now) (a .start) (a .«data» .now) (loop .loop .i) (omega arith)
+    new-stop (a .image .now) (a .old .now) (a .offset) (a .«data» .now) (loop .loop .i) (omega arith)
     (λ e. c .if1 .taken (e ∙ sym (c .before .new-byte .ensures)))
     ∙ loop .loop .inv .1
 
@@ -45,7 +48,7 @@ loop-again c =
     let loop = c .before .before .before .before in
     let a = loop .before .before .before .before .args in (
       omega arith,
-      new-next (a .image .now) (a .old .now) (a .start) (a .«data» .now) (loop .loop .i) (omega arith)
+      new-next (a .image .now) (a .old .now) (a .offset) (a .«data» .now) (loop .loop .i) (omega arith)
           (c .if1 .left ∙ c .before .new-byte .ensures)
           ∙ loop .loop .inv .1,
     )
@@ -54,7 +57,7 @@ returns-2 : tie.Need-returns-2 Inv-loop μ-loop
 returns-2 c =
     let loop = c .before in
     let a = loop .before .before .before .before .args in
-    new-end (a .image .now) (a .old .now) (a .start) (a .«data» .now) (loop .loop .i) (omega arith)
+    new-end (a .image .now) (a .old .now) (a .offset) (a .«data» .now) (loop .loop .i) (omega arith)
     ∙ loop .loop .inv .1
 
 pub is-new-spec : {M : Type 1} → statement M
@@ -65,6 +68,7 @@ is-new-spec =
     μ-loop
     loop-holds
     shared-slice-read-if1
+    cast-t11
     new-byte-requires
     returns
     add-i

@@ -1,6 +1,6 @@
 -- `verdicts::judge` meets its contract: no bytes are no image. Assumes nothing.
 use native.Mathlib.Omega.{arith}
-use Rattle.verdicts.proofs.Laws.{shown, lost, never-there}
+use Rattle.verdicts.proofs.Laws.{shows, lost, never-there}
 use borrow.Author.Needs.{needs}
 use Rattle.verdicts.proofs.judge.Statement.{statement}
 use Rattle.verdicts.proofs.judge.Tie as tie
@@ -13,9 +13,8 @@ judge-image-requires c κs = search needs
 
 returns : tie.Need-returns
 returns c =
-    let saved = c .before in
-    let a = saved .before .before .before .before .before .args in
-    shown (a .image .now) (a .old .now) (a .offset) (a .«data» .now) _ _ (omega arith) (saved .is-saved .ensures)
+    let a = c .before .before .before .before .before .before .args in
+    shows (a .image .now) (a .old .now) (a .offset) (a .«data» .now) _ _ (omega arith) (c .before .is-saved .ensures)
     (c .judge-image .ensures)
 
 returns-2 : tie.Need-returns-2

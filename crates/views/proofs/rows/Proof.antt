@@ -6,10 +6,13 @@ use Rattle.views.proofs.rows.Statement.{statement}
 use Rattle.views.proofs.rows.Tie as tie
 
 abbrev Inv-loop : tie.InvT-loop
-Inv-loop image before fold len run₀ at₀ run at = at ≤ length image
+Inv-loop image before fold len run₀ at₀ run at = (at ≤ length image) × (length image ≤ 4096)
 
 abbrev μ-loop : tie.MeasureT-loop
 μ-loop image before fold len run₀ at₀ run at = length image - at
+
+returns : tie.Need-returns Inv-loop μ-loop
+returns c = search needs
 
 loop-holds : tie.Need-loop-holds Inv-loop μ-loop
 loop-holds c = search needs
@@ -53,8 +56,8 @@ loop-again-2 c = search needs
 folded-requires : tie.Need-folded-requires Inv-loop μ-loop
 folded-requires c κs = search needs
 
-returns : tie.Need-returns Inv-loop μ-loop
-returns c = search needs
+returns-2 : tie.Need-returns-2 Inv-loop μ-loop
+returns-2 c = search needs
 
 pub rows-spec : {M : Type 1} → statement M
 rows-spec =
@@ -62,6 +65,7 @@ rows-spec =
     (tie.spec
     Inv-loop
     μ-loop
+    returns
     loop-holds
     row-end-requires
     sub-unfolded
@@ -76,4 +80,4 @@ rows-spec =
     loop-less-2
     loop-again-2
     folded-requires
-    returns)
+    returns-2)

@@ -17,8 +17,8 @@ enum-told-2 c = search needs
 returns : tie.Need-returns
 returns c =
     let a = c .before .before .before .before .args in
-    format-offset (a .offset .0) (a .len) (omega arith)
-    ∙ ap (λ (q : Request). wrongFormat q (a .offset .0) (a .len)) (sym (c .before .before .enum-told2 .given .1))
+    format-offset (a .offset) (a .len) (omega arith)
+    ∙ ap (λ (q : Request). wrongFormat q (a .offset) (a .len)) (sym (c .before .before .enum-told2 .given .1))
 
 returns-2 : tie.Need-returns-2
 returns-2 c = search needs
@@ -26,8 +26,8 @@ returns-2 c = search needs
 returns-3 : tie.Need-returns-3
 returns-3 c =
     let a = c .before .before .before .before .args in
-    format-length (a .offset .0) (a .len) (omega arith)
-    ∙ ap (λ (q : Request). wrongFormat q (a .offset .0) (a .len)) (sym (c .before .before .enum-told2 .given .1))
+    format-length (a .offset) (a .len) (omega arith)
+    ∙ ap (λ (q : Request). wrongFormat q (a .offset) (a .len)) (sym (c .before .before .enum-told2 .given .1))
 
 pub wrong-format-spec : {M : Type 1} → statement M
 wrong-format-spec = tie.close (tie.spec enum-told enum-told-2 returns returns-2 returns-3)

@@ -1,4 +1,6 @@
 -- `verdicts::Tally::with` meets its contract, verdict by verdict. Assumes nothing.
+use mathlib.Core.Path.{ap}
+use Rattle.verdicts.specs.Verdicts.{verdictIn}
 use Rattle.verdicts.proofs.Laws.{counted-as}
 use borrow.Author.Needs.{needs}
 use Rattle.verdicts.proofs.Tally.with.Statement.{statement}
@@ -37,27 +39,32 @@ one-more-requires-5 c κs = search needs
 returns : tie.Need-returns
 returns c =
     let t = c .before .before .before .args .self in
-    counted-as t _ _ _ (c .before .enum-told .given .1) (λ i. record { old = t .old; new = c .one-more .ensures i; another = t .another })
+    counted-as t _ _ _ (ap verdictIn (c .before .enum-told .given .1))
+    (λ i. record { old = t .old; new = c .one-more .ensures i; another = t .another })
 
 returns-2 : tie.Need-returns-2
 returns-2 c =
     let t = c .before .before .before .args .self in
-    counted-as t _ _ _ (c .before .enum-told2 .given .1) (λ i. record { old = t .old; new = t .new; another = c .one-more2 .ensures i })
+    counted-as t _ _ _ (ap verdictIn (c .before .enum-told2 .given .1))
+    (λ i. record { old = t .old; new = t .new; another = c .one-more2 .ensures i })
 
 returns-3 : tie.Need-returns-3
 returns-3 c =
     let t = c .before .before .before .args .self in
-    counted-as t _ _ _ (c .before .enum-told3 .given .1) (λ i. record { old = c .one-more3 .ensures i; new = t .new; another = t .another })
+    counted-as t _ _ _ (ap verdictIn (c .before .enum-told3 .given .1))
+    (λ i. record { old = c .one-more3 .ensures i; new = t .new; another = t .another })
 
 returns-4 : tie.Need-returns-4
 returns-4 c =
     let t = c .before .before .before .args .self in
-    counted-as t _ _ _ (c .before .enum-told4 .given .1) (λ i. record { old = c .one-more4 .ensures i; new = t .new; another = t .another })
+    counted-as t _ _ _ (ap verdictIn (c .before .enum-told4 .given .1))
+    (λ i. record { old = c .one-more4 .ensures i; new = t .new; another = t .another })
 
 returns-5 : tie.Need-returns-5
 returns-5 c =
     let t = c .before .before .before .args .self in
-    counted-as t _ _ _ (c .before .enum-told5 .given .1) (λ i. record { old = c .one-more5 .ensures i; new = t .new; another = t .another })
+    counted-as t _ _ _ (ap verdictIn (c .before .enum-told5 .given .1))
+    (λ i. record { old = c .one-more5 .ensures i; new = t .new; another = t .another })
 
 pub with-spec : {M : Type 1} → statement M
 with-spec =

@@ -3,7 +3,8 @@ use mathlib.Core.Path.{sym}
 use native.Mathlib.Omega.{arith}
 use lib.ListN.{length}
 use Rattle.requests.specs.Numbers.{numberIn}
-use Rattle.requests.proofs.Laws.{Legal, legal}
+use Rattle.requests.specs.Legal.{Legal}
+use Rattle.requests.proofs.Laws.{legal}
 use Rattle.flash.proofs.Laws.{told}
 use Rattle.walks.specs.Walks.{beginSave}
 use Rattle.walks.proofs.Numbers.{begin-refused, begin-on}
@@ -11,8 +12,8 @@ use borrow.Author.Needs.{needs}
 use Rattle.walks.proofs.Walk.save.Statement.{statement}
 use Rattle.walks.proofs.Walk.save.Tie as tie
 
-check-request-requires : tie.Need-check-request-requires
-check-request-requires c κs = search needs
+check-numbers-requires : tie.Need-check-numbers-requires
+check-numbers-requires c κs = search needs
 
 enum-known-why : tie.Need-enum-known-why
 enum-known-why c = search needs
@@ -22,9 +23,9 @@ enum-told c = search needs
 
 legal-here : (c : tie.After-enum-told)
     → let a = c .before .before .before .before .before .before .args in
-    Legal (length (a .left .now)) (length (a .right .now)) (a .offset .0) (length (a .«data» .now))
+    Legal (length (a .left .now)) (length (a .right .now)) (a .offset) (length (a .«data» .now))
 legal-here c =
-    legal _ _ _ _ 0 (sym (told numberIn (c .enum-told .given .1) (c .before .before .check-request .ensures))) .0
+    legal _ _ _ _ 0 (sym (told numberIn (c .enum-told .given .1) (c .before .before .check-numbers .ensures))) .0
 
 cast-len : tie.Need-cast-len
 cast-len c = omega (arith, legal-here c)
@@ -36,19 +37,19 @@ returns : tie.Need-returns
 unfolding beginSave
 returns c =
     begin-refused _ _ (c .before .why .given .0 .0)
-    (told numberIn (c .before .why .given .1) (c .before .before .before .check-request .ensures))
+    (told numberIn (c .before .why .given .1) (c .before .before .before .check-numbers .ensures))
 
 returns-2 : tie.Need-returns-2
 unfolding beginSave
 returns-2 c =
-    begin-on _ _ _ (told numberIn (c .before .enum-told .given .1) (c .before .before .before .check-request .ensures))
+    begin-on _ _ _ (told numberIn (c .before .enum-told .given .1) (c .before .before .before .check-numbers .ensures))
     (c .first-walk .ensures)
 
 pub save-spec : {M : Type 1} → statement M
 save-spec =
     tie.close
     (tie.spec
-    check-request-requires
+    check-numbers-requires
     enum-known-why
     enum-told
     cast-len

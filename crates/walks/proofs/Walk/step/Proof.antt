@@ -9,7 +9,7 @@ use Rattle.walks.specs.declared.Progress.the-variants.{Made, Ended, Unfi
 use Rattle.walks.specs.Walks.{wrongNumbers}
 use Rattle.walks.proofs.Numbers.{right-legal, right-page}
 use Rattle.walks.proofs.Laws.{totalOf}
-use Rattle.walks.proofs.Tries.{answered, step-wrong, step-beyond, step-ended, step-made, step-unfit}
+use Rattle.walks.proofs.Steps.{answered, step-wrong, step-beyond, step-ended, step-made, step-unfit}
 use borrow.Author.Needs.{needs}
 use Rattle.walks.proofs.Walk.step.Statement.{statement}
 use Rattle.walks.proofs.Walk.step.Tie as tie

@@ -11,7 +11,7 @@ ghost use Rattle.timelines.specs.Timelines.{walkIn, endsWith};
 // ---- the script
 fn print_first<'a>(left: &'a [u8], right: &'a [u8]) {
     prints::text(b"\nat first\n");
-    replies::show(left, right, b"");
+    answers::show(left, right, b"");
 }
 
 // Prints the next line of a script where one is taken, and gives its number.
@@ -61,7 +61,7 @@ pub fn run<'a>(text: &[u8], left: &'a [u8], right: &'a [u8]) -> Hand
             &mut now_right[0..page],
             &mut out,
         );
-        replies::print_answer(
+        answers::print_answer(
             answered,
             session,
             text,

@@ -1,9 +1,9 @@
--- `replies::bytes` is safe and ends. Assumes nothing.
+-- `answers::bytes` is safe and ends. Assumes nothing.
 use Prim.Native.Nat.{_-_, _≤_}
 use lib.ListN.{length}
 use borrow.Author.Needs.{needs}
-use Rattle.replies.proofs.bytes.Statement.{statement}
-use Rattle.replies.proofs.bytes.Tie as tie
+use Rattle.answers.proofs.bytes.Statement.{statement}
+use Rattle.answers.proofs.bytes.Tie as tie
 
 abbrev Inv-loop : tie.InvT-loop
 Inv-loop part i₀ i-end i = i ≤ length part

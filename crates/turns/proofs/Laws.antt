@@ -79,6 +79,10 @@ loaded-bound d buffer into n e =
     go true = omega (arith, length-append d (drop (length d) buffer))
     go false = omega arith
 
+-- data that a buffer takes whole
+abbrev wholly : List ℕ → List ℕ → Decoded
+wholly d buffer = record { count = length d; buffer = d ++ drop (length d) buffer }
+
 -- what decoding leaves is what is loaded, but for the number of bytes of longer data
 pub load-short : (digits line buffer into : List ℕ) (n : ℕ) → digits ≡ line → length digits / 2 ≤ length buffer
     → _≡_ {A = Decoded} (record { count = n; buffer = into }) (decoded digits buffer)
@@ -88,18 +92,15 @@ load-short digits line buffer into n el h e =
     let size : length (bytesOf digits) ≡ length digits / 2 = bytes-length digits in
     let t : leb (length (bytesOf digits)) (length buffer) ≡ true =
     le-leb (length (bytesOf digits)) (length buffer) (omega (arith, size, h)) in
-    e ∙ ap (λ (q : Bool). cond q whole (record { count = 0; buffer = buffer })) t
+    e ∙ ap (λ (q : Bool). cond q (wholly (bytesOf digits) buffer) (record { count = 0; buffer = buffer })) t
     ∙ sym (ap
     (λ (q : Bool).
-    cond q whole (record { count = length buffer - length (bytesOf digits) % 2; buffer = buffer })) t)
+    cond q (wholly (bytesOf digits) buffer) (record {
+      count = length buffer - length
+          (bytesOf digits) % 2;
+      buffer = buffer;
+    })) t)
     ∙ ap (λ (x : List ℕ). loaded (bytesOf x) buffer) el
-  where
-    whole : Decoded
-    whole =
-        record {
-          count = length (bytesOf digits);
-          buffer = bytesOf digits ++ drop (length (bytesOf digits)) buffer;
-        }
 
 load-long : (digits line buffer into : List ℕ) (n k : ℕ) → digits ≡ line → length buffer < length digits / 2
     → k ≡ length buffer - length digits / 2 % 2
@@ -112,21 +113,18 @@ load-long digits line buffer into n k el h ek e =
     lt-leb (length (bytesOf digits)) (length buffer) (omega (arith, size, h)) in
     let kept : into ≡ buffer =
     ap (λ (x : Decoded). x .buffer)
-    (e ∙ ap (λ (q : Bool). cond q whole (record { count = 0; buffer = buffer })) t) in
+    (e ∙ ap (λ (q : Bool). cond q (wholly (bytesOf digits) buffer) (record { count = 0; buffer = buffer })) t) in
     let same : k ≡ length buffer - length (bytesOf digits) % 2 =
     ek ∙ ap (λ (m : ℕ). length buffer - m % 2) (sym size) in
     (λ i. record { count = same i; buffer = kept i })
     ∙ sym (ap
     (λ (q : Bool).
-    cond q whole (record { count = length buffer - length (bytesOf digits) % 2; buffer = buffer })) t)
+    cond q (wholly (bytesOf digits) buffer) (record {
+      count = length buffer - length
+          (bytesOf digits) % 2;
+      buffer = buffer;
+    })) t)
     ∙ ap (λ (x : List ℕ). loaded (bytesOf x) buffer) el
-  where
-    whole : Decoded
-    whole =
-        record {
-          count = length (bytesOf digits);
-          buffer = bytesOf digits ++ drop (length (bytesOf digits)) buffer;
-        }
 
 pub load-even : (digits line buffer into : List ℕ) (n : ℕ) → digits ≡ line → length buffer < length digits / 2
     → length digits / 2 % 2 ≡ 0 → _≡_ {A = Decoded} (record { count = n; buffer = into }) (decoded digits buffer)

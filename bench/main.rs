@@ -6,7 +6,9 @@
 //! rounds counts. Every buffer has been used before: all times are with warm caches.
 //!
 //! Its arguments: the size of the machine code of the exported library, in bytes; then, if wanted,
-//! `quick` for fewer rounds, which measures badly, or `check` to compare the answers and stop.
+//! `quick` for fewer rounds, which measures badly and judges no bar; `bar N` for as few, judged by N in
+//! the place of every bar; or `check` to compare the answers and stop. Its status is 1 where answers
+//! differ or a bar is missed.
 
 mod calls;
 mod plain;
@@ -21,7 +23,9 @@ const PAGES: [usize; 3] = [64, 512, 4096];
 
 fn main() {
     let arguments: Vec<String> = std::env::args().skip(1).collect();
-    let rounds = if arguments.iter().any(|word| word == "quick") { 5 } else { 1000 };
+    let has = |wanted: &str| arguments.iter().any(|word| word == wanted);
+    let quick = has("quick");
+    let rounds = if quick || has("bar") { 5 } else { 1000 };
     let libraries = calls::libraries();
 
     match same::compare(&libraries) {
@@ -32,22 +36,28 @@ fn main() {
         }
     }
 
-    if arguments.iter().any(|word| word == "check") {
+    if has("check") {
         return;
     }
+    let bar = has("bar").then(|| arguments.last().and_then(|word| word.parse().ok()).expect("a bar"));
     println!("\nNanoseconds, least of {rounds} runs, warm caches; the ratio is to the faster of the two\n");
     println!("| What | P | library | plain Rust | plain C | ratio | bar | |");
     println!("|---|---|---|---|---|---|---|---|");
     let mut missed = 0;
-    for row in rows::rows(&PAGES) {
-        missed += print(&row, &measured(&row, &libraries, rounds));
+    for mut row in rows::rows(&PAGES) {
+        row.bar = row.bar.map(|its_own| bar.unwrap_or(its_own));
+        missed += print(&row, &measured(&row, &libraries, rounds), !quick);
     }
     println!();
-    print_sizes(arguments.iter().find_map(|word| word.parse().ok()));
+    print_sizes(arguments.first().and_then(|word| word.parse().ok()));
     println!();
     match missed {
+        _ if quick => println!("benchmark: quick, too few rounds to judge a bar"),
         0 => println!("benchmark: every bar is met"),
-        n => println!("benchmark: bars missed: {n}"),
+        n => {
+            println!("benchmark: bars missed: {n}");
+            std::process::exit(1);
+        }
     }
 }
 
@@ -63,11 +73,12 @@ fn measured(row: &Row, libraries: &[Library; 3], rounds: usize) -> [f64; 3] {
     least
 }
 
-/// Prints a row; gives 1 where its bar is missed.
-fn print(row: &Row, [library, rust, c]: &[f64; 3]) -> u32 {
+/// Prints a row; gives 1 where its bar is judged and missed.
+fn print(row: &Row, [library, rust, c]: &[f64; 3], judged: bool) -> u32 {
     let ratio = library / rust.min(*c);
     let (bar, verdict) = match row.bar {
         None => (String::new(), ""),
+        Some(bar) if !judged => (format!("{bar:.1}"), ""),
         Some(bar) if ratio <= bar => (format!("{bar:.1}"), "met"),
         Some(bar) => (format!("{bar:.1}"), "MISSED"),
     };

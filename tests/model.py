@@ -5,8 +5,8 @@ It stands on these two alone and shares nothing with the proved one; the stored 
 tests/cases are made from it. The first half is the paper: pages, lines, numbers, the list of steps,
 walks, reads. The second half prints what `show` and `replay` print, failures included.
 
-    python3 tests/model.py show LEFT RIGHT
-    python3 tests/model.py replay [--cuts] [LEFT RIGHT SCRIPT]
+    python3 tests/model.py show ARGUMENT ..
+    python3 tests/model.py replay ARGUMENT ..
     python3 tests/model.py check      asserts the paper's checked examples and table of counts
 """
 import collections
@@ -297,50 +297,212 @@ class Board:
         return answer
 
 
-# ---------------------------------------------------------------- inputs
+# ---------------------------------------------------------------- bytes from outside, faults
+
+VERSION = '0.6.0'
+
 
 class Bad(Exception):
     """What is wrong with an input."""
 
 
-def check_names(arguments):
-    for place, name in enumerate(arguments, 1):
-        if len(os.fsencode(name)) > 4095:
+def outside(data):
+    """Bytes of a name, a word or a comment as they are printed."""
+    return ''.join('\\\\' if byte == 0x5C else chr(byte) if 0x20 <= byte <= 0x7E
+                   else f'\\x{byte:02X}' for byte in data)
+
+
+def short(data):
+    """A word as a fault prints it."""
+    return outside(data[:40])
+
+
+# ---------------------------------------------------------------- arguments
+
+LINES_OF_HELP = {
+    'show': """\
+show [--json] LEFT RIGHT
+show [--json] --one FILE LEFT-AT RIGHT-AT LENGTH
+  what two dumps of pages hold; --json: as one JSON object
+  --one: both pages are in FILE, LENGTH bytes each, from the bytes LEFT-AT and RIGHT-AT on
+  a file - is standard input
+ok: help""".split('\n'),
+    'replay': """\
+replay [--all | --cuts] [LEFT RIGHT SCRIPT]
+replay [--all | --cuts] --one FILE LEFT-AT RIGHT-AT LENGTH SCRIPT
+  a script of calls and power cuts on copies of two dumps of pages
+  --all: every step has its lines; --cuts: the last save or format is cut after each of its steps
+  --one: both pages are in FILE, LENGTH bytes each, from the bytes LEFT-AT and RIGHT-AT on
+  a file - is standard input; with no files the sample in samples/ is replayed
+  a line of SCRIPT: save OFFSET HEX, format, step, step N, step all, step with HEX,
+  read OFFSET LENGTH, copy OFFSET LENGTH, cut; # and what follows is a comment
+ok: help""".split('\n'),
+}
+OPTIONS = {'show': (b'--json',), 'replay': (b'--all', b'--cuts')}
+ALONE = (b'--help', b'--version')
+# how many words may follow, by the program and by whether --one stands; which of them are names
+COUNTS = {('show', False): (2,), ('show', True): (4,),
+          ('replay', False): (0, 3), ('replay', True): (5,)}
+NAMES = {False: (0, 1, 2), True: (0, 4)}
+LONGEST_NAME = 4095
+
+# option: None or one of OPTIONS or ALONE; words: what follows it and --one
+Request = collections.namedtuple('Request', 'option one words')
+
+
+def usage(program):
+    return Bad('usage: ' + ', or '.join(LINES_OF_HELP[program][:2]))
+
+
+def request_of(program, arguments):
+    words, option, legal = list(arguments), None, (b'--one',) + ALONE
+    if words and words[0] in OPTIONS[program]:
+        option, legal = words.pop(0), (b'--one',)
+    if words and words[0].startswith(b'--') and words[0] not in legal:
+        raise Bad(f"unknown option '{short(words[0])}', --help says which there are")
+    if words and words[0] in ALONE:
+        option = words.pop(0)
+        if words:
+            raise usage(program)
+        return Request(option, False, ())
+    one = words[:1] == [b'--one']
+    words = words[1:] if one else words
+    if len(words) not in COUNTS[program, one]:
+        raise usage(program)
+    return Request(option, one, words)
+
+
+def check_names(arguments, request):
+    before = len(arguments) - len(request.words)
+    names = {before + at + 1: request.words[at]
+             for at in NAMES[request.one] if at < len(request.words)}
+    for place, name in names.items():
+        if len(name) > LONGEST_NAME:
             raise Bad(f'argument {place} is too long for a file name')
+    if list(names.values()).count(b'-') > 1:
+        raise Bad('standard input is named twice')
 
 
-def load(name, most):
-    """The file's bytes, of an over-long one only the first most + 1."""
+# ---------------------------------------------------------------- files
+
+TEXTS_OF_ERRORS = {
+    1: 'not permitted', 5: 'the device failed', 6: 'no such device', 11: 'nothing to read yet',
+    12: 'no memory is left', 20: 'a part of the name is no directory',
+    22: 'not a name or not readable', 23: 'too many open files', 24: 'too many open files',
+    36: 'file name too long', 40: 'too many links', 75: 'the file is too large',
+}
+NO_SAMPLE = '; run replay in the folder of README.md, or name LEFT, RIGHT and SCRIPT'
+
+
+def called(name):
+    """A file's name as it is printed."""
+    return 'standard input' if name == b'-' else outside(name)
+
+
+def fault_of_file(number):
+    fault = {2: 'no such file', 21: 'it is a directory', 13: 'it may not be read'}.get(number)
+    if fault is None:
+        text = TEXTS_OF_ERRORS.get(number)
+        fault = f'reading it failed with error {number}' + (f': {text}' if text else '')
+    return fault
+
+
+def first_bytes(file, most):
+    """The first bytes of an open file, at most so many."""
+    parts, room = [], most
+    while room:
+        parts.append(os.read(file, min(room, 1 << 20)))
+        room -= len(parts[-1])
+        if not parts[-1]:
+            break
+    return b''.join(parts)
+
+
+standard_input = None                   # its bytes; None: they are read from this process's own
+
+
+def load(name, most, sample=False):
+    """The file's bytes, of an over-long one only the first `most`."""
+    if name == b'-' and standard_input is not None:
+        return standard_input[:most]
+    file = None
     try:
-        with open(name, 'rb') as file:
-            return file.read(most + 1)
-    except FileNotFoundError:
-        raise Bad(f'{name}: no such file')
-    except IsADirectoryError:
-        raise Bad(f'{name}: it is a directory')
-    except PermissionError:
-        raise Bad(f'{name}: it may not be read')
+        file = 0 if name == b'-' else os.open(name, os.O_RDONLY)
+        return first_bytes(file, most)
     except OSError as fault:
-        raise Bad(f'{name}: reading it failed with error {fault.errno}')
+        hint = NO_SAMPLE if sample else ''
+        raise Bad(f'{called(name)}: {fault_of_file(fault.errno)}{hint}')
+    finally:
+        if file:
+            os.close(file)
+
+
+# ---------------------------------------------------------------- the two pages
+
+# one: both are from one file; froms: the places in it; pages: the bytes
+Dumps = collections.namedtuple('Dumps', 'names one froms pages')
 
 
 def fault_of_lengths(left, right):
+    if left > MOST and right > MOST:
+        return f'P is above {MOST}'
     if left != right:
         return 'the pages differ in length'
-    if left > MOST:
-        return f'P is above {MOST}'
     return 'P is odd' if left % 2 else f'P is below {LEAST}'
 
 
-def load_pages(left_name, right_name):
-    left, right = load(left_name, MOST), load(right_name, MOST)
-    if number_of_pages((left, right)):
-        too_long = f'more than {MOST} bytes'
-        of_left = f'{len(left)} bytes' if len(left) <= MOST else too_long
-        of_right = f'{len(right)}' if len(right) <= MOST else too_long
-        raise Bad(f'number 1: {left_name} has {of_left} and {right_name} has {of_right}: '
+def count_of_bytes(count):
+    return '1 byte' if count == 1 else f'{count} bytes'
+
+
+def size_of_page(page):
+    return count_of_bytes(len(page)) if len(page) <= MOST else f'more than {MOST} bytes'
+
+
+def two_dumps(left_name, right_name, sample=False):
+    pages = load(left_name, MOST + 1, sample), load(right_name, MOST + 1, sample)
+    if number_of_pages(pages):
+        left, right = pages
+        raise Bad(f'number 1: {called(left_name)} has {size_of_page(left)} and '
+                  f'{called(right_name)} has {size_of_page(right)}: '
                   + fault_of_lengths(len(left), len(right)))
-    return left, right
+    return Dumps((left_name, right_name), False, (0, 0), pages)
+
+
+def number_in(text, digits, base):
+    """The number that a word says, None where it says none; one of many digits is cut short."""
+    return int(text.lstrip(b'0')[:20] or b'0', base) if re.fullmatch(digits, text) else None
+
+
+def number_of_one(what, text):
+    if text.startswith(b'0x'):
+        number = number_in(text[2:], b'[0-9A-Fa-f]+', 16)
+    else:
+        number = number_in(text, b'[0-9]+', 10)
+    if number is None:
+        raise Bad(f"{what}: '{short(text)}' is no number")
+    if number > 0xFFFFFFFF:
+        raise Bad(f'{what}: the number {short(text)} is past 32 bits')
+    return number
+
+
+def one_dump(name, *numbers):
+    whats = 'LEFT-AT', 'RIGHT-AT', 'LENGTH'
+    *froms, length = [number_of_one(*pair) for pair in zip(whats, numbers)]
+    if length % 2 or not LEAST <= length <= MOST:
+        raise Bad(f'number 1: LENGTH is {length}: {fault_of_lengths(length, length)}')
+    held = load(name, max(froms) + length)
+    for side, at in zip(SIDES, froms):
+        if at + length > len(held):
+            raise Bad(f'{called(name)} has {count_of_bytes(len(held))}: {side}, {length} bytes '
+                      f'from byte {at} on, goes past its end')
+    return Dumps((name, name), True, froms, [held[at:at + length] for at in froms])
+
+
+def lines_of_names(dumps):
+    for side in (LEFT, RIGHT):
+        place = f' from byte {dumps.froms[side]} on' if dumps.one else ''
+        yield f'{SIDES[side]:5} {called(dumps.names[side])}{place}'
 
 
 # ---------------------------------------------------------------- rows of an image
@@ -383,6 +545,43 @@ def hex_of(part):
 
 # ---------------------------------------------------------------- show
 
+OTHERS = {
+    'erased': 'is erased',
+    'undecided': 'holds a save not yet decided',
+    'no settings': 'holds no settings: its image is all FF',
+    'before': 'holds the settings before',
+}
+NOTES = {
+    'one file': 'LEFT and RIGHT are one file',
+    'shared bytes': 'LEFT and RIGHT share bytes of the file',
+    'same bytes': 'LEFT and RIGHT hold the same bytes, are they one file?',
+    'changed over': 'with LEFT and RIGHT changed over this is line 2',
+}
+
+
+def other_of(page):
+    """What a page that isn't live holds beside one that is."""
+    if erased(page):
+        return 'erased'
+    if word(page) == 0xFFFFFFFF:
+        return 'undecided'
+    return 'no settings' if erased(page[HEAD:]) else 'before'
+
+
+def notes_of(dumps):
+    (left, right), (left_at, right_at) = dumps.pages, dumps.froms
+    notes = []
+    if left_at == right_at if dumps.one else dumps.names[LEFT] == dumps.names[RIGHT]:
+        notes.append('one file')
+    if dumps.one and 0 < abs(left_at - right_at) < len(left):
+        notes.append('shared bytes')
+    if not notes and left == right and not erased(left):
+        notes.append('same bytes')
+    if line_of((left, right)) == 0 and line_of((right, left)):
+        notes.append('changed over')
+    return notes
+
+
 def text_of(entry):
     """A flash step in words."""
     side = SIDES[entry.side]
@@ -402,15 +601,14 @@ def lines_of_word(pages):
                f'Dead {dead:02X}, Spare {spare:02X}')
 
 
-def lines_of_live(walk):
+def lines_of_live(pages, walk):
     live = live_of(walk.line)
     if live is None:
         yield 'line 0: no page is live, a read is answered 5'
         yield 'both pages are erased' if walk.erased else 'the pages are not both erased'
     else:
         yield f'line {walk.line}: {SIDES[live]} is live'
-        state = 'erased' if walk.erased else 'not erased'
-        yield f'the other page, {SIDES[1 - live]}, is {state}'
+        yield f'the other page, {SIDES[1 - live]}, {OTHERS[other_of(pages[1 - live])]}'
 
 
 def lines_of_steps(entries):
@@ -423,58 +621,116 @@ def lines_of_steps(entries):
             yield f'  steps {at} to {cells[-1]}: program the image cells of {SIDES[entry.side]}'
 
 
-def lines_of_show(left_name, right_name, pages):
-    length = len(pages[LEFT])
-    walk = begin('save', pages)[1]
-    yield f'LEFT  {left_name}'
-    yield f'RIGHT {right_name}'
-    yield (f'P = {length}: an image of {length - HEAD} bytes from page offset {HEAD} on, '
-           f'{(length - HEAD) // 2} cells')
-    yield from lines_of_word(pages)
-    yield from lines_of_live(walk)
-    yield from lines_of_steps(entries_of(walk))
+def lines_of_images(pages, walk):
     if walk.line:
         yield f'the image of {SIDES[live_of(walk.line)]}:'
         yield from whole_rows(live_image(pages))
+    elif not walk.erased:
+        for side in (LEFT, RIGHT):
+            yield f'the image of {SIDES[side]}, which is not live:'
+            yield from whole_rows(pages[side][HEAD:])
+
+
+def lines_of_show(dumps):
+    pages, length = dumps.pages, len(dumps.pages[LEFT])
+    walk = begin('save', pages)[1]
+    yield from lines_of_names(dumps)
+    yield (f'P = {length}: an image of {length - HEAD} bytes from page offset {HEAD} on, '
+           f'{(length - HEAD) // 2} cells')
+    yield from lines_of_word(pages)
+    yield from lines_of_live(pages, walk)
+    yield from (f'note: {NOTES[note]}' for note in notes_of(dumps))
+    yield from lines_of_steps(entries_of(walk))
+    yield from lines_of_images(pages, walk)
     yield 'ok: shown'
 
 
+# ---------------------------------------------------------------- show --json
+
+def json_of(value):
+    """A value as JSON; its strings are printable ASCII already."""
+    if value is None or isinstance(value, bool):
+        return {None: 'null', True: 'true', False: 'false'}[value]
+    if isinstance(value, int):
+        return str(value)
+    if isinstance(value, str):
+        return '"' + value.replace('\\', '\\\\').replace('"', '\\"') + '"'
+    if isinstance(value, list):
+        return '[' + ', '.join(map(json_of, value)) + ']'
+    return '{' + ', '.join(f'{json_of(key)}: {json_of(held)}' for key, held in value.items()) + '}'
+
+
+def object_of_page(dumps, side):
+    page = dumps.pages[side]
+    return {'file': called(dumps.names[side]), 'from': dumps.froms[side],
+            'word': f'{word(page):08X}', 'erased': erased(page), 'image': page[HEAD:].hex().upper()}
+
+
+def object_of_show(dumps):
+    walk = begin('save', dumps.pages)[1]
+    live, entries = live_of(walk.line), entries_of(walk)
+    return {'ok': True, 'version': VERSION, 'page': len(dumps.pages[LEFT]),
+            'left': object_of_page(dumps, LEFT), 'right': object_of_page(dumps, RIGHT),
+            'line': walk.line, 'live': None if live is None else SIDES[live],
+            'other': None if live is None else other_of(dumps.pages[1 - live]),
+            'steps': len(entries), 'deciding': deciding_place(entries),
+            'notes': notes_of(dumps)}
+
+
+def object_of_fault(fault):
+    return {'ok': False, 'version': VERSION, 'failed': str(fault)}
+
+
 def show(arguments):
-    if len(arguments) != 2:
-        raise Bad('usage: show LEFT RIGHT')
-    check_names(arguments)
-    return lines_of_show(*arguments, load_pages(*arguments))
+    as_json = arguments[:1] == [b'--json']
+    try:
+        request = request_of('show', arguments)
+        if request.option in ALONE:
+            return lines_alone('show', request.option)
+        check_names(arguments, request)
+        dumps = (one_dump if request.one else two_dumps)(*request.words)
+        return [json_of(object_of_show(dumps))] if as_json else lines_of_show(dumps)
+    except Bad as fault:
+        if as_json:
+            return [json_of(object_of_fault(fault))]
+        raise
+
+
+def lines_alone(program, option):
+    return [f'ok: Fretgalaxy {VERSION}'] if option == b'--version' else LINES_OF_HELP[program]
 
 
 # ---------------------------------------------------------------- scripts
 
+LONGEST_SCRIPT = 262143
+MARK = b'\xEF\xBB\xBF'
+
+# text: the line as it is printed, its comment included
 Call = collections.namedtuple('Call', 'line text kind offset length data count')
-
-
-def plain(text):
-    """A word as a failure prints it."""
-    return ''.join(c if ' ' <= c <= '~' else '?' for c in text[:40])
+# apart: an empty line stands before it
+Heading = collections.namedtuple('Heading', 'text apart')
 
 
 def take_number(words):
     if not words:
         raise Bad('a number is missing')
     text = words.pop(0)
-    if not re.fullmatch('[0-9]+', text):
-        raise Bad(f"'{plain(text)}' is no number")
-    if int(text) > 0xFFFFFFFF:
-        raise Bad(f'the number {plain(text)} is past 32 bits')
-    return int(text)
+    number = number_in(text, b'[0-9]+', 10)
+    if number is None:
+        raise Bad(f"'{short(text)}' is no number")
+    if number > 0xFFFFFFFF:
+        raise Bad(f'the number {short(text)} is past 32 bits')
+    return number
 
 
 def take_bytes(words):
-    text = words.pop(0) if words else ''
-    if not re.fullmatch('[0-9A-Fa-f]*', text):
-        raise Bad(f"'{plain(text)}' is not hexadecimal")
+    text = words.pop(0) if words else b''
+    if not re.fullmatch(b'[0-9A-Fa-f]*', text):
+        raise Bad(f"'{short(text)}' is not hexadecimal")
     if len(text) % 2:
         raise Bad('odd number of hexadecimal digits')
     check_size(len(text) // 2)
-    return bytes.fromhex(text)
+    return bytes.fromhex(text.decode('ascii'))
 
 
 def check_size(length):
@@ -486,10 +742,10 @@ def take_step(words):
     """Data (None: the held) and how many steps (None: all)."""
     if not words:
         return None, 1
-    if words[0] == 'all':
+    if words[0] == b'all':
         words.pop(0)
         return None, None
-    if words[0] == 'with':
+    if words[0] == b'with':
         words.pop(0)
         return take_bytes(words), 1
     return None, take_number(words)
@@ -498,44 +754,85 @@ def take_step(words):
 def call_of(line, text, words):
     kind = words.pop(0)
     offset = length = data = count = None
-    if kind == 'save':
+    if kind == b'save':
         offset, data = take_number(words), take_bytes(words)
-    elif kind == 'step':
+    elif kind == b'step':
         data, count = take_step(words)
-    elif kind in ('read', 'copy'):
+    elif kind in (b'read', b'copy'):
         offset, length = take_number(words), take_number(words)
-        if kind == 'copy':
+        if kind == b'copy':
             check_size(length)
-    elif kind not in ('format', 'cut'):
-        raise Bad(f"unknown word '{plain(kind)}'")
+    elif kind not in (b'format', b'cut'):
+        raise Bad(f"unknown word '{short(kind)}'")
     if words:
-        raise Bad(f"one word too many: '{plain(words[0])}'")
-    return Call(line, text, kind, offset, length, data, count)
+        raise Bad(f"one word too many: '{short(words[0])}'")
+    return Call(line, text, kind.decode('ascii'), offset, length, data, count)
 
 
-def calls_of(name, script):
-    calls = []
-    for at, line in enumerate(script.decode('latin-1').split('\n'), 1):
-        line = line[:-1] if line.endswith('\r') else line
-        text = line.split('#')[0].replace('\t', ' ').strip(' ')
-        words = [part for part in text.split(' ') if part]
-        if not words:
-            continue
-        try:
-            calls.append(call_of(at, text, words))
-        except Bad as fault:
-            raise Bad(f'{name} line {at}: {fault}')
-    return calls
+def parts_of_line(line):
+    """A line from its first word to its last, tabs as blanks, and its comment as it is printed."""
+    text, sign, rest = line.removesuffix(b'\r').partition(b'#')
+    return text.replace(b'\t', b' ').strip(b' '), outside((sign + rest).rstrip(b' \t\r'))
 
 
-def load_script(name):
-    script = load(name, 65535)
-    if len(script) > 65535:
-        raise Bad(f'{name}: more than 65535 bytes')
-    calls = calls_of(name, script)
-    if not calls:
-        raise Bad(f'{name}: no call in it')
-    return calls
+def items_of(name, script):
+    """The calls and the headings of a script, in its order."""
+    items, after_heading = [], False
+    for at, line in enumerate(script.removeprefix(MARK).split(b'\n'), 1):
+        text, comment = parts_of_line(line)
+        heading = comment != '' and text == b''
+        if heading:
+            items.append(Heading(comment, not after_heading))
+        elif text:
+            printed = outside(text) + (f'  {comment}' if comment else '')
+            try:
+                items.append(call_of(at, printed, [word for word in text.split(b' ') if word]))
+            except Bad as fault:
+                raise Bad(f'{called(name)} line {at}: {fault}')
+        after_heading = heading
+    return items
+
+
+def load_script(name, sample):
+    script = load(name, LONGEST_SCRIPT + 1, sample)
+    if len(script) > LONGEST_SCRIPT:
+        raise Bad(f'{called(name)}: more than {LONGEST_SCRIPT} bytes')
+    items = items_of(name, script)
+    if not calls_of(items):
+        raise Bad(f'{called(name)}: no call in it')
+    return items
+
+
+def calls_of(items):
+    return [item for item in items if isinstance(item, Call)]
+
+
+# ---------------------------------------------------------------- verdicts
+
+def verdict(now, old, new, of):
+    """What a read shows beside the image before and the one wanted, and how that is counted."""
+    if now is None and old is None:
+        return f'a read is answered 5, as before the {of}', 'old image'
+    if now is None and of == 'format':
+        return 'a read is answered 5, as the format has it', 'new image'
+    if now is not None and now == old:
+        too = ', which is the new one too' if now == new and of != 'cut' else ''
+        return f'a read shows the old image, whole{too}', 'old image'
+    if now is not None and now == new:
+        return 'a read shows the new image, whole', 'new image'
+    return 'a read shows ANOTHER IMAGE', 'another'
+
+
+def image_wanted(pages, call):
+    """What a read is to show after a save or format, None for no image."""
+    if call.kind == 'format':
+        return None
+    for_none = b'\xFF' * (len(pages[LEFT]) - HEAD)
+    return lay(live_image(pages) or for_none, call.offset, call.data)
+
+
+def text_of_counts(counts):
+    return ', '.join(f'{what}: {counts[what]}' for what in ('old image', 'new image', 'another'))
 
 
 # ---------------------------------------------------------------- replay
@@ -559,76 +856,119 @@ def text_of_live(line):
     return f'line {line}, ' + ('no page is live' if live is None else f'{SIDES[live]} is live')
 
 
-class Replay:
-    """A board, what its last read of the whole image showed, and the lines printed."""
+def text_of_begun(entries):
+    if not entries:
+        return '0 steps, none is needed'
+    return f'{len(entries)} steps, the deciding store is step {deciding_place(entries)}'
 
-    def __init__(self, left, right):
-        self.board = Board(left, right)
+
+def begin_call(board, call):
+    """Begins the save or format of a call."""
+    return board.begin(call.kind, *((call.offset, call.data) if call.kind == 'save' else ()))
+
+
+class Replay:
+    """A board, what a read of the whole image showed last, and the counts of verdicts."""
+
+    def __init__(self, pages, every):
+        self.board = Board(*pages)
+        self.every = every              # --all: image cells have lines of their own
         self.shown = None
+        self.wanted = None              # old image, new image and kind of the walk in hand
+        self.cuts, self.ends = collections.Counter(), collections.Counter()
+
+    def read_lines(self, head, now):
+        """What a read of the whole image shows, after the head of the line."""
+        before, self.shown = self.shown, now
+        if now is None:
+            return [head + 'a read is answered 5']
+        if now == before:
+            return [head + 'a read shows the same']
+        return [head + 'a read shows'] + (changed_rows(now, before) if before else whole_rows(now))
 
     def state(self):
         """The words, the line, the live page and what a read shows."""
         pages = self.board.pages
-        before, now = self.shown, live_image(pages)
-        self.shown = now
         head = '  ' + ', '.join(f'{SIDES[s]} {word(pages[s]):08X}' for s in (LEFT, RIGHT))
-        head += f': {text_of_live(line_of(pages))}; a read '
-        if now is None:
-            return [head + 'is answered 5']
-        if now == before:
-            return [head + 'shows the same']
-        return [head + 'shows'] + (changed_rows(now, before) if before else whole_rows(now))
+        return self.read_lines(head + f': {text_of_live(line_of(pages))}; ', live_image(pages))
+
+    def judged(self, counts, old, new, of):
+        text, which = verdict(live_image(self.board.pages), old, new, of)
+        counts[which] += 1
+        return ['  ' + text]
 
     def begin(self, call):
-        if call.kind == 'save':
-            number = self.board.begin('save', call.offset, call.data)
-        else:
-            number = self.board.begin('format')
+        number = begin_call(self.board, call)
         if number:
             return ['  ' + text_of_number(number)]
-        total, deciding = len(self.board.entries), deciding_place(self.board.entries)
-        if total == 0:
-            return ['  begun: 0 steps, none is needed']
-        return [f'  begun: {total} steps, the deciding store is step {deciding}']
+        pages = self.board.pages        # a beginning changes no byte
+        self.wanted = live_image(pages), image_wanted(pages, call), call.kind
+        lines = ['  begun: ' + text_of_begun(self.board.entries)]
+        return lines if self.board.entries else lines + self.judged(self.ends, *self.wanted)
 
-    def step(self, data):
-        """Whether a step was made, and its lines."""
-        answer = self.board.step(data)
+    def folds(self, call, answer):
+        """Whether a step is told together with the image cells beside it."""
+        return (isinstance(answer, Entry) and answer.what == 'image'
+                and call.data is None and not self.every)
+
+    def folded(self, cells):
+        """The line of image cells that are told together: places, and what a read shows then."""
+        if not cells:
+            return []
+        (first, _), (last, now), total = cells[0], cells[-1], len(self.board.entries)
+        side = SIDES[self.board.entries[first - 1].side]
+        if first == last:
+            head = f'  step {first} of {total}: program an image cell of {side}; '
+        else:
+            head = f'  steps {first} to {last} of {total}: program image cells of {side}; '
+        return self.read_lines(head, now)
+
+    def answered(self, call, answer):
+        """The lines of a step that is told by itself."""
         if answer is None:
-            return False, ['  no walk is in hand: nothing happens']
-        if answer == 'ended':
-            return False, ['  ended: no step is left']
+            return ['  no walk is in hand: nothing happens']
         if answer == 6:
-            return False, ['  ' + text_of_number(6)]
+            return ['  ' + text_of_number(6)]
+        lines = [] if call.data is None \
+            else ['  the held data was handed over in place of these bytes']
+        if answer == 'ended':
+            return lines + ['  ended: no step is left']
         place, total = self.board.walk.place, len(self.board.entries)
-        return True, [f'  step {place} of {total}: {text_of(answer)}'] + self.state()
+        lines += [f'  step {place} of {total}: {text_of(answer)}'] + self.state()
+        return lines if place < total else lines + self.judged(self.ends, *self.wanted)
 
     def steps(self, call):
-        lines, made, count = [], True, 0
-        while made and (call.count is None or count < call.count):
-            made, more = self.step(call.data)
-            lines += more
-            count += 1
-        return lines
+        lines, cells, made, count = [], [], True, 0
+        while made and count != call.count:
+            answer = self.board.step(call.data)
+            made, count = isinstance(answer, Entry), count + 1
+            if self.folds(call, answer):
+                cells.append((self.board.walk.place, live_image(self.board.pages)))
+            else:
+                lines += self.folded(cells) + self.answered(call, answer)
+                cells = []
+        return lines + self.folded(cells)
 
     def cut(self):
         text = '  the power is cut' + self.text_of_cut()
+        now = live_image(self.board.pages)
+        wanted = (now, now, 'cut') if self.board.walk is None else self.wanted
         self.board.cut()
-        return [text] + self.state()
+        return [text] + self.state() + self.judged(self.cuts, *wanted)
 
     def text_of_cut(self):
         if self.board.walk is None:
-            return ': no walk was in hand'
-        place, total = self.board.walk.place, len(self.board.entries)
-        if place == total:
-            return " after the walk's end: nothing is lost"
-        if place == 0:
-            return f' before step 1 of {total}: the walk and its data are lost'
-        if place < deciding_place(self.board.entries):
-            return (f' after step {place} of {total}, before the deciding store: '
-                    'the walk and its data are lost')
-        return (f' after step {place} of {total}, at or after the deciding store: '
-                'the walk is lost, what it decided stays')
+            return ': no save or format is under way'
+        walk, total = self.board.walk, len(self.board.entries)
+        if walk.place == total:
+            return f" after the {walk.kind}'s end: the {walk.kind} stays"
+        if walk.place == 0:
+            return f' before step 1 of {total}: all stays as before the {walk.kind}'
+        if walk.place < deciding_place(self.board.entries):
+            return (f' after step {walk.place} of {total}, before the deciding store: '
+                    f'all stays as before the {walk.kind}')
+        return (f' after step {walk.place} of {total}, at or after the deciding store: '
+                f'the {walk.kind} stays')
 
     def read(self, call):
         number, part = read(self.board.pages, call.offset, call.length)
@@ -651,85 +991,101 @@ class Replay:
         return self.read(call) if call.kind == 'read' else self.copy(call)
 
 
-def lines_of_replay(left, right, calls):
-    replay = Replay(left, right)
+def lines_of_replay(pages, items, every):
+    replay = Replay(pages, every)
     yield 'at first'
     yield from replay.state()
-    for call in calls:
-        yield f'script line {call.line}: {call.text}'
-        yield from replay.make(call)
-    yield f'ok: replayed, calls: {len(calls)}'
+    for item in items:
+        if isinstance(item, Heading):
+            yield from [''] * item.apart + [item.text]
+        else:
+            yield f'script line {item.line}: {item.text}'
+            yield from replay.make(item)
+    for what, counts in (('cuts', replay.cuts), ('ended', replay.ends)):
+        yield f'{what}: {sum(counts.values())}, {text_of_counts(counts)}'
+    if replay.cuts['another'] or replay.ends['another']:
+        yield 'failed: a read showed another image'
+    else:
+        yield f'ok: replayed, calls: {len(calls_of(items))}'
 
 
 # ---------------------------------------------------------------- replay --cuts
 
-def last_save(left, right, calls):
-    """The last save that was begun and the pages as they were there, or None."""
-    replay, last = Replay(left, right), None
+def last_begun(pages, calls):
+    """The last save or format that was begun and the pages as they were there, or None."""
+    board, last = Board(*pages), None
     for call in calls:
-        before = [bytes(page) for page in replay.board.pages]
-        replay.make(call)
-        if call.kind == 'save' and begin('save', before, call.offset, call.data)[0] == 0:
+        before = [bytes(page) for page in board.pages]
+        if call.kind in ('save', 'format') and begin_call(board, call) == 0:
             last = call, before
+        elif call.kind == 'cut':
+            board.cut()
+        elif call.kind == 'step':
+            count = 0
+            while count != call.count and isinstance(board.step(call.data), Entry):
+                count += 1
     return last
-
-
-def verdict(now, old, new):
-    """What a read shows after a cut, and which of the three counts it is in."""
-    if now == old and now is None:
-        return 'a read is answered 5, as before the save', 'old'
-    if now == old and now == new:
-        return 'a read shows the old image, which is the new one too', 'old'
-    if now == old:
-        return 'a read shows the old image', 'old'
-    if now == new:
-        return 'a read shows the new image', 'new'
-    return 'a read shows ANOTHER IMAGE', 'another'
 
 
 def lines_of_cuts(call, before):
     board = Board(*before)
-    old, line = live_image(board.pages), line_of(board.pages)
-    new = lay(old or b'\xFF' * (len(before[LEFT]) - HEAD), call.offset, call.data)
-    board.begin('save', call.offset, call.data)
+    old, new = live_image(board.pages), image_wanted(board.pages, call)
+    begin_call(board, call)
     total, counts = len(board.entries), collections.Counter()
     yield f'script line {call.line}: {call.text}'
-    yield (f'  begun at line {line}: {total} steps, '
-           f'the deciding store is step {deciding_place(board.entries)}')
+    yield f'  begun at line {line_of(before)}: {text_of_begun(board.entries)}'
     for made in range(total + 1):       # a cut keeps the pages, so one walk serves for all cuts
-        text, which = verdict(live_image(board.pages), old, new)
+        text, which = verdict(live_image(board.pages), old, new, call.kind)
         counts[which] += 1
         yield f'  cut after {made} of {total} steps: {text_of_live(line_of(board.pages))}; {text}'
         board.step()
-    yield (f'{"failed" if counts["another"] else "ok"}: {total + 1} cuts, old image: '
-           f'{counts["old"]}, new image: {counts["new"]}, another: {counts["another"]}')
+    yield (f'{"failed" if counts["another"] else "ok"}: {total + 1} cut{"s" if total else ""}, '
+           + text_of_counts(counts))
+
+
+SAMPLE = b'samples/story-left.bin', b'samples/story-right.bin', b'samples/story.txt'
 
 
 def replay(arguments):
-    cuts = arguments[:1] == ['--cuts']
-    names = arguments[1:] if cuts else arguments
-    if len(names) not in (0, 3):
-        raise Bad('usage: replay [--cuts] [LEFT RIGHT SCRIPT]')
-    check_names(arguments)
-    names = names or ['samples/story-left.bin', 'samples/story-right.bin', 'samples/story.txt']
-    left, right = load_pages(*names[:2])
-    calls = load_script(names[2])
-    head = [f'LEFT  {names[0]}', f'RIGHT {names[1]}', f'P = {len(left)}']
-    if not cuts:
-        return itertools.chain(head, lines_of_replay(left, right, calls))
-    last = last_save(left, right, calls)
+    request = request_of('replay', arguments)
+    if request.option in ALONE:
+        return lines_alone('replay', request.option)
+    check_names(arguments, request)
+    sample = not request.words
+    *of_pages, script = request.words or SAMPLE
+    dumps = one_dump(*of_pages) if request.one else two_dumps(*of_pages, sample)
+    items = load_script(script, sample)
+    head = [*lines_of_names(dumps), f'P = {len(dumps.pages[LEFT])}']
+    if request.option != b'--cuts':
+        every = request.option == b'--all'
+        return itertools.chain(head, lines_of_replay(dumps.pages, items, every))
+    last = last_begun(dumps.pages, calls_of(items))
     if last is None:
-        raise Bad(f'{names[2]}: no save in it is begun')
+        raise Bad(f'{called(script)}: no save or format in it is begun')
     return itertools.chain(head, lines_of_cuts(*last))
 
 
-def output(arguments):
-    """All that the program named first prints."""
+def output(arguments, stdin=None):
+    """All that the program named first prints, with these bytes as standard input."""
+    global standard_input
+    standard_input = stdin
+    program, *arguments = [os.fsencode(argument) for argument in arguments]
     try:
-        lines = list({'show': show, 'replay': replay}[arguments[0]](arguments[1:]))
+        lines = list({b'show': show, b'replay': replay}[program](arguments))
     except Bad as fault:
         lines = [f'failed: {fault}']
-    return os.fsencode('\n'.join(lines) + '\n')
+    return ('\n'.join(lines) + '\n').encode('ascii')
+
+
+def phrases():
+    """What the tables above print, as docs/FORMATS.md quotes it."""
+    yield f'`ok: Fretgalaxy {VERSION}`'
+    yield from (f'`the other page, RIGHT, {other}`' for other in OTHERS.values())
+    yield from (f'`note: {note}`' for note in NOTES.values())
+    yield from (f'"{key}"' for key in [*OTHERS, *NOTES])
+    yield from (f'`{text_of_number(number)}`' for number in MEANINGS)
+    yield from (f'`{text}`' for text in TEXTS_OF_ERRORS.values())
+    yield NO_SAMPLE
 
 
 # ---------------------------------------------------------------- the paper's examples

@@ -5,14 +5,15 @@ what they print. No table of lines and no list of steps stands here:
 
 - The words: it begins with two erased pages and takes every word that a step of a save or a format
   leaves, then every pair of these words, each with blank and with written images.
-- The line, the live page and erased-or-not of a pair: `show`.
+- The line, the live page and erased-or-not of a pair: `show --json`.
 - The steps, which of them is the deciding store, that a read changes there and nowhere else, and
-  the line after each step: `replay`, of a save and a format from each such pair.
-- What a cut leaves: `replay`, with a cut after each number of steps and a save begun after it.
+  the line after each step: `replay --all`, of a save and a format from each such pair.
+- What a cut leaves: `replay --all`, with a cut after each number of steps and a save begun after it.
 
 Where two answers contradict each other, or one can't be read, a Fault says so in one line.
 """
 import itertools
+import json
 import pathlib
 import re
 import subprocess
@@ -60,36 +61,50 @@ WORDS = re.compile(r'  LEFT ([0-9A-F]{8}), RIGHT ([0-9A-F]{8}): line (\d+), (.+?
 BEGUN = re.compile(r'  begun: (\d+) steps, (?:the deciding store is step (\d+)|none is needed)')
 STEP = re.compile(r'  step (\d+) of (\d+): (.+?)(, the deciding store)?')
 IMAGE_CELL = re.compile(r'program the image cell at \d+ of (LEFT|RIGHT) to [0-9A-F]{4}')
-# what replay prints beside that: files, P, calls, images, the end of a walk, cuts
+# what replay prints beside that: files, P, calls, images, what a read shows, the end of a walk, cuts
 PASSED = re.compile(r'LEFT  .*|RIGHT .*|P = \d+|at first|script line \d+: .*| +\d+ ( [0-9A-F ]{2} |'
                     r'[ \[][0-9A-F]{2}[ \]]).*| +\d+ to \d+  (all FF|as before)|  ended: no step '
-                    r'is left|  the power is cut.*|ok: .*')
-LINE = re.compile(r'line (\d+): (.+? live)(?:, .*)?')
-ERASED = re.compile(r'(?:both pages are|the other page, (?:LEFT|RIGHT), is) erased')
-NOT_ERASED = re.compile(r'the pages are not both erased|'
-                        r'the other page, (?:LEFT|RIGHT), is not erased')
-CELLS = re.compile(r'P = \d+: an image of \d+ bytes from page offset 4 on, (\d+) cells')
+                    r'is left|  a read (shows|is answered 5, as) .*|  the power is cut.*|'
+                    r'(cuts|ended): \d+, .*|ok: .*')
+LIVE = {'LEFT': 'LEFT is live', 'RIGHT': 'RIGHT is live', None: 'no page is live'}
 
 
 def run(folder, program, *arguments):
-    """The lines that a program prints, the last of which has to begin with `ok: `."""
+    """The lines that a program prints, the last of which has to say that all went well."""
     path = ROOT / 'target' / 'bin' / program
     if not path.is_file():
         raise Fault(f'target/bin/{program} is missing: `rt check {program}` makes it')
     done = subprocess.run([str(path), *arguments], cwd=folder, stdin=subprocess.DEVNULL, timeout=20,
                           capture_output=True, encoding='latin-1')
     lines = done.stdout.splitlines() or ['nothing']
-    if not lines[-1].startswith('ok: '):
+    if not lines[-1].startswith(('ok: ', '{"ok": true')):
         raise Fault(f'{program} says: {lines[-1]}')
     return lines
 
 
-def only(pattern, lines, what):
-    """The match of the one line that has this form."""
-    found = [match for match in map(pattern.fullmatch, lines) if match]
-    if len(found) != 1:
-        raise Fault(f'show: {what} is told {len(found)} times, not once')
-    return found[0]
+class Shown(NamedTuple):
+    """What is told of two pages, and of a save from them: its steps, and which of them decides."""
+    line: int
+    live: str
+    erased: bool
+    cells: int
+    steps: int
+    commit: int
+
+
+def shown(text):
+    """What `show --json` tells. Erased-or-not is of both pages at line 0, else of the other page."""
+    try:
+        told = json.loads(text)
+        pages = {'LEFT': told['left'], 'RIGHT': told['right']}
+        live, steps, commit = told['live'], told['steps'], told['deciding']
+        others = [page['erased'] for side, page in pages.items() if side != live]
+        if live and others != [told['other'] == 'erased']:
+            raise Fault(f'show tells two things of the page that is not live: {text}')
+        cells = len(pages['LEFT']['image']) // 4
+        return Shown(told['line'], LIVE[live], all(others), cells, steps, commit)
+    except (ValueError, KeyError, TypeError):
+        raise Fault(f'show: an answer that is not understood: {text}') from None
 
 
 class Library:
@@ -103,20 +118,17 @@ class Library:
             (self.folder / name).write_bytes(page)
 
     def show(self, pages):
-        """The line, what is said of the live page, erased-or-not, and the number of image cells."""
+        """What is told of these pages."""
         self.keep(pages)
-        lines = run(self.folder, 'show', 'left.bin', 'right.bin')
-        line = only(LINE, lines, 'the line')
-        erased = any(map(ERASED.fullmatch, lines))
-        only(ERASED if erased else NOT_ERASED, lines, 'erased-or-not')
-        return int(line[1]), line[2], erased, int(only(CELLS, lines, 'the number of cells')[1])
+        return shown(run(self.folder, 'show', '--json', 'left.bin', 'right.bin')[-1])
 
     def replay(self, pages, count, *calls):
         """The walks, so many, that these calls begin, with the steps made of each, and the places
         at first and after a cut."""
         self.keep(pages)
         (self.folder / 'script.txt').write_text('\n'.join(calls) + '\n')
-        walks, places = walks_in(run(self.folder, 'replay', 'left.bin', 'right.bin', 'script.txt'))
+        walks, places = walks_in(run(self.folder, 'replay', '--all', 'left.bin', 'right.bin',
+                                     'script.txt'))
         if (len(walks), len(places)) != (count, 1 + calls.count('cut')):
             raise Fault(f'replay: {len(walks)} walks and {len(places)} places for {calls}')
         return walks, places
@@ -214,11 +226,13 @@ def ask_all(library):
 
 def ask_pages(library, pages, found):
     """Asks for both walks from two pages and returns the words that their steps leave."""
-    line, live, erased, cells = library.show(pages)
+    line, live, erased, cells, steps, commit = library.show(pages)
     (save,), (place,) = library.replay(pages, 1, SAVE, 'step all')
     (form,), _ = library.replay(pages, 1, FORMAT, 'step all')
     if (line, live) != place[1:]:
         raise Fault(f'show and replay differ: line {line}, {live}; line {place.line}, {place.live}')
+    if (steps, commit) != save[:2]:
+        raise Fault(f'show and replay differ in the steps of a save at line {line}')
     begun = Begun(line, erased)
     whole(save, f'a save at line {line}')
     whole(form, f'a format at line {line}')

@@ -9,11 +9,12 @@ use mathlib.Core.List.{List}
 use lib.Dec.{leb}
 use lib.ListN.{length}
 use borrow.Author.Tests.{eq-eqb, ne-eqb, le-leb, lt-leb, not-true, not-false}
-use Rattle.texts.specs.declared.Number.{Number}
-use Rattle.texts.specs.declared.Number.the-variants as N
-use Rattle.texts.specs.declared.Fault.{Fault}
-use Rattle.texts.specs.declared.Fault.the-variants.{UnknownWord, OddDigits, NotHex, TooLong, ExtraWord}
-use Rattle.texts.specs.Texts.{wordAt, numberOf, allHex, same}
+use Rattle.digits.specs.declared.Number.{Number}
+use Rattle.digits.specs.declared.Number.the-variants as N
+use Rattle.digits.specs.declared.Fault.{Fault}
+use Rattle.digits.specs.declared.Fault.the-variants.{UnknownWord, OddDigits, NotHex, TooLong, ExtraWord}
+use Rattle.texts.specs.Texts.{wordAt, same}
+use Rattle.digits.specs.Digits.{numberOf, allHex}
 use Rattle.asks.specs.declared.Call.{Call}
 use Rattle.asks.specs.declared.Call.the-variants as C
 use Rattle.asks.specs.Asks.{

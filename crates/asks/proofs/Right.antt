@@ -9,9 +9,10 @@ use native.Mathlib.Omega.{arith}
 use lib.Dec.{eqb, ltb, leb}
 use lib.ListN.{length}
 use borrow.Author.Tests.{leb-true, ltb-true}
-use Rattle.texts.specs.declared.Number.{Number}
-use Rattle.texts.specs.declared.Number as N
-use Rattle.texts.specs.Texts.{wordAt, digitOf, numberFrom, numberOf, allHex, same}
+use Rattle.digits.specs.declared.Number.{Number}
+use Rattle.digits.specs.declared.Number as N
+use Rattle.texts.specs.Texts.{wordAt, same}
+use Rattle.digits.specs.Digits.{digitOf, numberFrom, numberOf, allHex}
 use Rattle.asks.specs.declared.Call.{Call}
 use Rattle.asks.specs.declared.Call as C
 use Rattle.asks.specs.Asks as T

@@ -9,8 +9,8 @@ use mathlib.Core.List.{List, [], _∷_}
 use lib.Dec.{eqb, leb}
 use lib.ListN.{length}
 use Rattle.pages.specs.declared.PageOffset.{PageOffset}
-use Rattle.texts.specs.declared.Fault.{Fault}
-use Rattle.texts.specs.declared.Fault.the-variants.{
+use Rattle.digits.specs.declared.Fault.{Fault}
+use Rattle.digits.specs.declared.Fault.the-variants.{
   UnknownWord,
   NoNumber,
   NotNumber,
@@ -20,9 +20,10 @@ use Rattle.texts.specs.declared.Fault.the-variants.{
   TooLong,
   ExtraWord,
 }
-use Rattle.texts.specs.declared.Number.{Number}
-use Rattle.texts.specs.declared.Number as N
-use Rattle.texts.specs.Texts.{wordAt, numberOf, allHex, same}
+use Rattle.digits.specs.declared.Number.{Number}
+use Rattle.digits.specs.declared.Number as N
+use Rattle.texts.specs.Texts.{wordAt, same}
+use Rattle.digits.specs.Digits.{numberOf, allHex}
 use Rattle.asks.specs.declared.Call.{Call}
 use Rattle.asks.specs.declared.Call as C
 

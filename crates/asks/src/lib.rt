@@ -1,8 +1,8 @@
 // What a line of a script asks for: its call, or its first fault. The layout is in docs/FORMATS.md,
 // its definitions in specs/Asks.antt. Lines, words and numbers are in the crate texts.
+use digits::Fault;
+use digits::Number;
 use pages::PageOffset;
-use texts::Fault;
-use texts::Number;
 ghost use mathlib.Core.Path.{_≡_};
 ghost use Rattle.asks.specs.Asks.{
   endedBy,
@@ -52,7 +52,7 @@ fn with_bytes(line: &[u8], call: Call) -> Call
     ensures { λ r. ⌜ r ≡ withBytes (now (line .entry)) call ⌝ }
 {
     let digits = texts::word(line, 2);
-    if !texts::is_hex(digits) {
+    if !digits::is_hex(digits) {
         return Call::Wrong(Fault::NotHex, 2);
     }
     if digits.len() % 2 != 0 {
@@ -67,7 +67,7 @@ fn with_bytes(line: &[u8], call: Call) -> Call
 fn parse_save(line: &[u8]) -> Call
     ensures { λ r. ⌜ r ≡ saveOf (now (line .entry)) ⌝ }
 {
-    match texts::parse_number(texts::word(line, 1)) {
+    match digits::parse_number(texts::word(line, 1)) {
         Number::Wrong(fault) => Call::Wrong(fault, 1),
         Number::Value(offset) => with_bytes(line, Call::Save(PageOffset(offset))),
     }
@@ -86,7 +86,7 @@ fn parse_step(line: &[u8]) -> Call
     if check::same(count, b"all") {
         return ended(line, 2, Call::Steps(MAX_NUMBER));
     }
-    match texts::parse_number(count) {
+    match digits::parse_number(count) {
         Number::Wrong(fault) => Call::Wrong(fault, 1),
         Number::Value(steps) => ended(line, 2, Call::Steps(steps)),
     }
@@ -106,9 +106,9 @@ fn part_call(copy: bool, offset: u32, len: u32) -> Call
 fn parse_part(line: &[u8], copy: bool, most: u32) -> Call
     ensures { λ r. ⌜ r ≡ partOf copy most (now (line .entry)) ⌝ }
 {
-    match texts::parse_number(texts::word(line, 1)) {
+    match digits::parse_number(texts::word(line, 1)) {
         Number::Wrong(fault) => Call::Wrong(fault, 1),
-        Number::Value(offset) => match texts::parse_number(texts::word(line, 2)) {
+        Number::Value(offset) => match digits::parse_number(texts::word(line, 2)) {
             Number::Wrong(fault) => Call::Wrong(fault, 2),
             Number::Value(len) => {
                 if most < len {

@@ -244,14 +244,20 @@ steps-made n hand w x held d own l r l′ r′ a eh eo ex ea out =
     ∙ (λ i. record { answers = sym (z .0) i; board = sym (z .1) i; out = out })
     ∙ ap (λ (y : Hand). madeOn (Step n) (boardIn y held l r) d out) (sym eh)
 
-pub no-walk : (n : ℕ) (hand : Hand) (held d l r : List ℕ) → hand ≡ Empty
-    → Steps n (record { hand = Empty; made = 0; answer = A.the-variants.Nothing }) hand held d l r l r
+pub no-walk : (n : ℕ) (hand : Hand) (t : Turn) (held d l r : List ℕ) → hand ≡ Empty
+    → t ≡ (record { hand = hand; made = 0; answer = A.the-variants.Nothing }) → Steps n t hand held d l r l r
 unfolding madeOn turn
-no-walk n hand held d l r eh out =
+no-walk n hand t held d l r eh et out =
     let b = boardIn Empty held l r in
     let z = repeats n b (C.step d) refl in
     let k : n - 0 ≡ n = omega arith in
-    ap (λ (m : ℕ). record { answers = replicate m C.nothing; board = b; out = out }) k
+    ap (λ (u : Turn). turnIn (Step n) u held d l r out) et
+    ∙ (λ i.
+    record {
+      answers = replicate (k i) C.nothing;
+      board = boardIn (eh i) held l r;
+      out = out;
+    })
     ∙ (λ i. record { answers = sym (z .0) i; board = sym (z .1) i; out = out })
     ∙ ap (λ (y : Hand). madeOn (Step n) (boardIn y held l r) d out) (sym eh)
 
@@ -294,11 +300,12 @@ into-made o k m hand held d l r out out′ f e =
     e
 
 -- ---- a cut
-pub cut-made : (hand : Hand) (held d l r out : List ℕ)
-    → turnIn Cut (record { hand = Empty; made = 0; answer = A.the-variants.Nothing }) held d l r out
+pub cut-made : (hand next : Hand) (held d l r out : List ℕ) → next ≡ Empty
+    → turnIn Cut (record { hand = next; made = 0; answer = A.the-variants.Nothing }) held d l r out
     ≡ madeOn Cut (boardIn hand held l r) d out
 unfolding madeOn answers boardAfter turn
-cut-made hand held d l r out = refl
+cut-made hand next held d l r out e =
+    ap (λ (h : Hand). turnIn Cut (record { hand = h; made = 0; answer = A.the-variants.Nothing }) held d l r out) e
 
 -- ---- the call that is made
 pub of-call : (call c : Call) (t u : Turn) (b : Board) (held d l r out out′ : List ℕ) → call ≡ c → t ≡ u

@@ -4,12 +4,15 @@
 // It is total: any hand, any bytes and lengths. The data that a walk was begun with is lent too. What
 // each answer means is in specs/Boards.antt.
 use pages::PageOffset;
+use pages::State;
+use plans::Request;
 use walks::Begun;
 use walks::Progress;
 use walks::Walk;
 ghost use mathlib.Core.Path.{_≡_};
 ghost use Rattle.reads.specs.Reads.{readNumber};
 ghost use Rattle.model.specs.Board.{handed};
+ghost use Rattle.boards.specs.declared.Hand.the-variants.{Empty};
 ghost use Rattle.boards.specs.Boards.{
   boardIn,
   begunTurn,
@@ -60,6 +63,33 @@ pub struct Turn {
     pub hand: Hand,
     pub made: u32,
     pub answer: Answer,
+}
+
+// ---- the hand
+// The hand without its walk. Compiled code may look at a walk's fields before it has looked whether
+// one is held; so an empty hand is made from another, whose fields stay as they were written.
+fn emptied(hand: Hand) -> Hand
+    ensures { λ r. ⌜ r ≡ Empty ⌝ }
+{
+    let mut next = hand;
+    next = Hand::Empty;
+    next
+}
+
+// No walk in hand, with every field set.
+pub fn empty_hand() -> Hand
+    ensures { λ r. ⌜ r ≡ Empty ⌝ }
+{
+    let unheld = Walk {
+        request: Request::Save,
+        start: State::S0,
+        erased: false,
+        page: 0,
+        offset: PageOffset(0),
+        len: 0,
+        place: 0,
+    };
+    emptied(Hand::Holding(unheld))
 }
 
 // ---- beginnings
@@ -121,11 +151,7 @@ fn step<'a>(
         (now (right .exit)) ⌝ }
 {
     match hand {
-        Hand::Empty => Turn {
-            hand: Hand::Empty,
-            made: 0,
-            answer: Answer::Nothing,
-        },
+        Hand::Empty => answered(hand, Answer::Nothing),
         Hand::Holding(walk) => {
             let ran = walk.run(times, left, right, handed(held, data));
             let next = ran.walk;
@@ -197,6 +223,6 @@ pub fn make<'a>(
             let reading = reads::read_into(left, right, offset, out);
             answered(hand, Answer::Output(reading.number()))
         }
-        Call::Cut => answered(Hand::Empty, Answer::Nothing),
+        Call::Cut => answered(emptied(hand), Answer::Nothing),
     }
 }

@@ -1,4 +1,5 @@
-// Copies of bytes from one lent slice to another, as fast as the machine's own.
+// Copies of bytes from one lent slice to another, as fast as the machine's own; and the first bytes
+// of a slice.
 //
 // A plain loop over two slices is compiled to small moves, since they might overlap for all that the
 // compiler knows. Here each block goes by way of an array that overlaps with neither; compiled, the
@@ -55,4 +56,14 @@ pub fn copy(src: &[u8], dst: &mut [u8])
         copy_from(src, done, next, dst);
         done = next;
     }
+}
+
+// The first bytes of a buffer, all where it has fewer.
+pub fn first(buffer: &[u8], count: usize) -> &[u8]
+    ensures { λ r. ⌜ now r ≡ take count (now (buffer .entry)) ⌝ }
+{
+    if count < buffer.len() {
+        return &buffer[0..count];
+    }
+    buffer
 }

@@ -1,10 +1,10 @@
 // Walks document 01's table of counts at P = 4,096, "at most 2,052 steps", and compares. The layout
 // of what it prints is in docs/FORMATS.md.
-use libc::STDOUT_FILENO;
 use pages::PageOffset;
 use walks::Begun;
 use walks::Progress;
 use walks::Walk;
+ghost use Prim.Native.Nat.{_≤_};
 
 // The words of LEFT and RIGHT, the first cell of both images, whose other cells hold FFFF, and
 // document 01's line, its count of a save's steps and its count of a format's at P = 4,096, where C
@@ -98,28 +98,23 @@ fn measure(row: Row, question: Question) -> u32 {
     lend(&mut left, &mut right, row, question)
 }
 
-fn print_number(label: &[u8], number: u64) {
-    io::write_all(STDOUT_FILENO, label);
-    io::print_decimal(STDOUT_FILENO, number);
+fn print_hex(out: &mut [u8; 65536], label: &[u8], number: u64, digits: usize) {
+    prints::text(out, label);
+    prints::hex(out, number, digits);
 }
 
-fn print_hex(label: &[u8], number: u64, digits: usize) {
-    io::write_all(STDOUT_FILENO, label);
-    io::print_hex(STDOUT_FILENO, number, digits);
+fn print_pages(out: &mut [u8; 65536], row: Row) {
+    print_hex(out, b"P 4096, words ", row.0 as u64, 8);
+    print_hex(out, b" ", row.1 as u64, 8);
+    print_hex(out, b", first cells ", row.2 as u64, 4);
+    prints::text(out, b": ");
 }
 
-fn print_pages(row: Row) {
-    print_hex(b"P 4096, words ", row.0 as u64, 8);
-    print_hex(b" ", row.1 as u64, 8);
-    print_hex(b", first cells ", row.2 as u64, 4);
-    io::write_all(STDOUT_FILENO, b": ");
-}
-
-fn print_counts(line: u32, save: u32, format: u32) {
-    print_number(b"line ", line as u64);
-    print_number(b", save ", save as u64);
-    print_number(b" steps, format ", format as u64);
-    io::write_all(STDOUT_FILENO, b" steps");
+fn print_counts(out: &mut [u8; 65536], line: u32, save: u32, format: u32) {
+    prints::labelled(out, b"line ", line as u64);
+    prints::labelled(out, b", save ", save as u64);
+    prints::labelled(out, b" steps, format ", format as u64);
+    prints::text(out, b" steps");
 }
 
 fn same_counts(line: u32, save: u32, format: u32, row: Row) -> bool {
@@ -132,48 +127,60 @@ fn same_counts(line: u32, save: u32, format: u32, row: Row) -> bool {
     format == row.5
 }
 
-// Prints what the library counts beside a row, and says whether it is document 01's.
-fn compare(line: u32, save: u32, format: u32, row: Row) -> bool {
-    print_counts(line, save, format);
-    let same = same_counts(line, save, format, row);
+// Prints what document 01 gives where it is something else.
+fn print_wanted(out: &mut [u8; 65536], same: bool, row: Row) {
     if !same {
-        io::write_all(STDOUT_FILENO, b", but document 01 gives ");
-        print_counts(row.3, row.4, row.5);
+        prints::text(out, b", but document 01 gives ");
+        print_counts(out, row.3, row.4, row.5);
     }
-    io::write_all(STDOUT_FILENO, b"\n");
+}
+
+// Prints what the library counts beside a row, and says whether it is document 01's.
+fn compare(out: &mut [u8; 65536], line: u32, save: u32, format: u32, row: Row) -> bool {
+    print_counts(out, line, save, format);
+    let same = same_counts(line, save, format, row);
+    print_wanted(out, same, row);
+    prints::text(out, b"\n");
     same
 }
 
 // Prints a row of the table of counts as the library walks it.
-fn run(row: Row) -> bool {
-    print_pages(row);
+fn run(out: &mut [u8; 65536], row: Row) -> bool {
+    print_pages(out, row);
     let line = measure(row, Question::Line);
     let save = measure(row, Question::Save);
     let format = measure(row, Question::Format);
-    compare(line, save, format, row)
+    compare(out, line, save, format, row)
+}
+
+fn one_if_wrong(right: bool) -> u64
+    ensures { λ r. ⌜ r ≤ 1 ⌝ }
+{
+    if right { 0 } else { 1 }
 }
 
 // Runs every row, and counts those that are walked wrong.
-fn run_all() -> u64 {
+fn run_all(out: &mut [u8; 65536]) -> u64 {
     let rows = ROWS;
     let mut wrong: u64 = 0;
     for i in 0..14 {
-        if !run(rows[i]) {
-            wrong += 1;
-        }
+        wrong += one_if_wrong(run(out, rows[i]));
     }
     wrong
 }
 
-fn main() {
-    let wrong = run_all();
+fn run_program(out: &mut [u8; 65536]) {
+    let wrong = run_all(out);
     if wrong == 0 {
-        io::write_all(
-            STDOUT_FILENO,
-            b"all 14 counts are as document 01 gives them\n",
-        );
+        prints::text(out, b"all 14 counts are as document 01 gives them\n");
     } else {
-        io::print_decimal(STDOUT_FILENO, wrong);
-        io::write_all(STDOUT_FILENO, b" of 14 counts are WRONG\n");
+        prints::number(out, wrong);
+        prints::text(out, b" of 14 counts are WRONG\n");
     }
+}
+
+fn main() {
+    let mut out = io::large_buffer();
+    run_program(&mut out);
+    prints::flush(&mut out);
 }

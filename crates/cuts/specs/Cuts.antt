@@ -1,6 +1,6 @@
--- The last save of a script that is begun, cut after each number of its steps (the report of `--cuts`
--- in docs/FORMATS.md).
--- In order: the last save; a cut; the tally of all cuts.
+-- The last save or format of a script that is begun, cut after each number of its steps (the report of
+-- `--cuts` in docs/FORMATS.md).
+-- In order: the last walk; a cut; the tally of all cuts.
 -- Not here: what a read shows and its verdict (the crate verdicts). Laws: proofs/. Assumes nothing.
 use Prim.Native.Nat.{ℕ, zero, suc, _+_}
 use mathlib.Core.Bool.{Bool, true, false, cond, _&&_}
@@ -8,8 +8,6 @@ use mathlib.Core.List.{List, [], _∷_}
 use mathlib.Core.Option.{Option, none, some}
 use lib.Dec.{eqb}
 use Rattle.copies.specs.Copies.{copied}
-use Rattle.plans.specs.declared.Request.{Request}
-use Rattle.plans.specs.declared.Request.the-variants.{Save, Format}
 use Rattle.plans.specs.Counts.{stepCount}
 use Rattle.walks.specs.declared.Walk.{Walk}
 use Rattle.walks.specs.Walks.{runOf}
@@ -29,28 +27,24 @@ use Rattle.verdicts.specs.declared.Tally.{Tally}
 use Rattle.verdicts.specs.Verdicts.{shown, Shows, verdictOf, noCuts, counted}
 use Rattle.cuts.specs.declared.Last.{Last}
 
--- ---- the last save
-abbrev pub isSave : Request → Bool
-isSave Save = true
-isSave Format = false
+-- ---- the last walk
+-- whether a walk is in hand
+abbrev pub isHeld : Option B.Hand → Bool
+isHeld none = false
+isHeld (some h) = true
 
--- whether the walk in hand is that of a save
-abbrev pub savesIn : Option B.Hand → Bool
-savesIn none = false
-savesIn (some h) = isSave (h .walk .request)
-
--- the board after a call that begins a save
-abbrev pub savedBy : Turn → Option Board
-savedBy t = cond (isBegun (t .answer) && savesIn (t .board .hand)) (some (t .board)) none
+-- the board after a call that begins a walk
+abbrev pub begunBy : Turn → Option Board
+begunBy t = cond (isBegun (t .answer) && isHeld (t .board .hand)) (some (t .board)) none
 
 abbrev pub orElse : Option Board → Option Board → Option Board
 orElse none y = y
 orElse (some b) y = some b
 
--- "the last of its saves that was begun", with the pages as they were there
-unfoldable pub lastSave : Board → List Call → Option Board
-lastSave b [] = none
-lastSave b (c ∷ cs) = orElse (lastSave (turn b c .board) cs) (savedBy (turn b c))
+-- "the last of its saves and formats that was begun", with the pages as they were there
+unfoldable pub lastWalk : Board → List Call → Option Board
+lastWalk b [] = none
+lastWalk b (c ∷ cs) = orElse (lastWalk (turn b c .board) cs) (begunBy (turn b c))
 
 -- as the code has it: its data is that of a line, its pages are kept
 abbrev pub lastIn : List ℕ → Last → List ℕ → List ℕ → Option Board
@@ -60,7 +54,7 @@ lastIn text x l r = from (x .hand)
     from H.the-variants.Empty = none
     from (H.the-variants.Holding w) = some (boardIn (H.the-variants.Holding w) (dataAt text (x .at)) l r)
 
--- whether an answer of the code begins a save
+-- whether an answer of the code begins a walk
 abbrev pub begunIn : Answer → Bool
 begunIn A.the-variants.Nothing = false
 begunIn A.the-variants.Begun = true
@@ -70,25 +64,26 @@ begunIn (A.the-variants.Number n) = false
 begunIn (A.the-variants.Part o n) = false
 begunIn (A.the-variants.Output n) = false
 
-abbrev pub handSaves : Hand → Bool
-handSaves H.the-variants.Empty = false
-handSaves (H.the-variants.Holding w) = isSave (w .request)
+abbrev pub holdsIn : Hand → Bool
+holdsIn H.the-variants.Empty = false
+holdsIn (H.the-variants.Holding w) = true
 
-abbrev pub beginsSave : Answered → Bool
-beginsSave x = eqb (x .times) 1 && (begunIn (x .answer) && handSaves (x .session .hand))
+abbrev pub beginsWalk : Answered → Bool
+beginsWalk x = eqb (x .times) 1 && (begunIn (x .answer) && holdsIn (x .session .hand))
 
--- what is kept after a call, if it begins a save: its walk, and each page that it is begun on
+-- what is kept after a call, if it begins a walk: the walk, and each page that it is begun on
 abbrev pub keptLast : Answered → Last → Last
-keptLast x last = cond (beginsSave x) (record { hand = x .session .hand; at = x .session .began }) last
+keptLast x last = cond (beginsWalk x) (record { hand = x .session .hand; at = x .session .began }) last
 
 abbrev pub keptPage : Answered → List ℕ → List ℕ → List ℕ
-keptPage x page kept = cond (beginsSave x) (copied page kept) kept
+keptPage x page kept = cond (beginsWalk x) (copied page kept) kept
 
 -- ---- a cut
 -- what a read shows after so many steps of a walk, beside what it showed before them
 abbrev pub cutShown : ℕ → Walk → List ℕ → List ℕ → List ℕ → Shows
 cutShown n w d l r =
-    let c = runOf n w l r d in verdictOf (shown (c .left) (c .right)) (shown l r) (w .offset) d
+    let c = runOf n w l r d in
+    verdictOf (w .request) (shown (c .left) (c .right)) (shown l r) (w .offset) d
 
 -- ---- the tally
 -- of the cuts after fewer than so many steps
@@ -109,4 +104,4 @@ boardTally none = noCuts
 boardTally (some b) = walkTally (b .hand) (b .left) (b .right)
 
 abbrev pub scriptTally : List ℕ → List ℕ → List ℕ → Tally
-scriptTally text l r = boardTally (lastSave (powered l r) (scriptCalls text l r))
+scriptTally text l r = boardTally (lastWalk (powered l r) (scriptCalls text l r))

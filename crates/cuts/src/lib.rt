@@ -1,7 +1,10 @@
-// The last save of a script that is begun, cut after each number of its steps, all on copies of the
-// pages. The lines are in docs/FORMATS.md; what is counted is in specs/Cuts.antt.
+// The last save or format of a script that is begun, cut after each number of its steps, all on copies
+// of the pages. The lines are in docs/FORMATS.md; what is counted is in specs/Cuts.antt.
+use arguments::Name;
 use boards::Answer;
 use boards::Hand;
+use listings::Listing;
+use loads::Source;
 use plans::Request;
 use sessions::Answered;
 use sessions::Session;
@@ -17,36 +20,26 @@ ghost use Prim.Native.Nat.{_+_};
 ghost use Rattle.turns.specs.Turns.{dataAt};
 ghost use Rattle.verdicts.specs.Verdicts.{verdictIn};
 ghost use Rattle.cuts.specs.Cuts.{
-  isSave,
   begunIn,
-  handSaves,
-  beginsSave,
+  holdsIn,
+  beginsWalk,
   keptLast,
   keptPage,
   lastIn,
-  lastSave,
+  lastWalk,
   cutShown,
   tallied,
   totalOf,
   scriptTally,
 };
 
-// The walk of the last save that is begun, if there is one, and where its line is.
+// The last walk that is begun, if there is one, and where its line is.
 struct Last {
     hand: Hand,
     at: usize,
 }
 
-// ---- the last save
-fn is_save(request: Request) -> bool
-    ensures { λ r. ⌜ r ≡ isSave request ⌝ }
-{
-    match request {
-        Request::Save => true,
-        Request::Format => false,
-    }
-}
-
+// ---- the last walk
 fn is_begun(answer: Answer) -> bool
     ensures { λ r. ⌜ r ≡ begunIn answer ⌝ }
 {
@@ -61,21 +54,18 @@ fn is_begun(answer: Answer) -> bool
     }
 }
 
-fn hand_saves(hand: Hand) -> bool
-    ensures { λ r. ⌜ r ≡ handSaves hand ⌝ }
+fn is_holding(hand: Hand) -> bool
+    ensures { λ r. ⌜ r ≡ holdsIn hand ⌝ }
 {
     match hand {
         Hand::Empty => false,
-        Hand::Holding(walk) => {
-            let request = walk.request;
-            is_save(request)
-        }
+        Hand::Holding(_) => true,
     }
 }
 
-// Whether a call began a save.
-fn begins_save(answered: Answered) -> bool
-    ensures { λ r. ⌜ r ≡ beginsSave answered ⌝ }
+// Whether a call began a walk.
+fn begins_walk(answered: Answered) -> bool
+    ensures { λ r. ⌜ r ≡ beginsWalk answered ⌝ }
 {
     if answered.times != 1 {
         return false;
@@ -86,10 +76,10 @@ fn begins_save(answered: Answered) -> bool
     }
     let session = answered.session;
     let hand = session.hand;
-    hand_saves(hand)
+    is_holding(hand)
 }
 
-// After a call that begins a save, keeps its walk and the pages that it is begun on.
+// After a call that begins a walk, keeps it and the pages that it is begun on.
 fn keep(
     answered: Answered,
     last: Last,
@@ -105,7 +95,7 @@ fn keep(
         × (now («kept_right» .exit)
         ≡ keptPage answered (now («now_right» .entry)) (now («kept_right» .entry))) ⌝ }
 {
-    if !begins_save(answered) {
+    if !begins_walk(answered) {
         return last;
     }
     copies::copy(now_left, kept_left);
@@ -118,7 +108,7 @@ fn keep(
     }
 }
 
-// Makes a script on copies of the pages, and keeps those on which its last save is begun.
+// Makes a script on copies of the pages, and keeps those on which its last walk is begun.
 fn find_last(
     text: &[u8],
     left: &[u8],
@@ -134,7 +124,7 @@ fn find_last(
         ⌜ lastIn (now (text .entry)) r
         (take (length (now (left .entry))) (now («kept_left» .exit)))
         (take (length (now (left .entry))) (now («kept_right» .exit)))
-        ≡ lastSave
+        ≡ lastWalk
         (powered (now (left .entry)) (now (right .entry)))
         (scriptCalls (now (text .entry)) (now (left .entry)) (now (right .entry))) ⌝ }
 {
@@ -148,8 +138,10 @@ fn find_last(
     let mut now_right = turns::blank();
     copies::copy(left, &mut now_left);
     copies::copy(right, &mut now_right);
+    let mut listing = Listing::new();
     let mut on = session.is_on(text);
     while on {
+        listing = listings::count(listing, session.left);
         let mut out = turns::blank();
         let answered = sessions::next(
             text,
@@ -167,29 +159,55 @@ fn find_last(
 }
 
 // ---- what is printed
-fn print_cut(count: u32, total: u32, left: &[u8], right: &[u8], verdict: Verdict) {
-    prints::labelled(b"  cut after ", count as u64);
-    prints::labelled(b" of ", total as u64);
-    prints::text(b" steps: ");
-    views::line(left, right);
-    prints::text(b"; a read ");
-    verdicts::print_verdict(verdict);
+fn print_cut(
+    out: &mut [u8; 65536],
+    count: u32,
+    walk: Walk,
+    left: &[u8],
+    right: &[u8],
+    verdict: Verdict,
+) {
+    let request = walk.request;
+    prints::filled(
+        out,
+        b"  cut after # of # steps: ",
+        &[count as u64, walk.total() as u64],
+    );
+    views::line(out, left, right);
+    prints::text(out, b"; a read ");
+    views::print_verdict(out, verdict, views::event_of(request));
 }
 
-// Prints the save that is cut, after the end of the line of P.
-fn print_save(text: &[u8], at: usize, walk: Walk) {
+// Where the line is that began the last walk of a script: a save has its data there, and no format is
+// refused where a walk can be begun.
+fn line_of(text: &[u8], at: usize, walk: Walk) -> usize {
+    let request = walk.request;
+    match request {
+        Request::Save => at,
+        Request::Format => listings::last_format(text),
+    }
+}
+
+// Prints the walk that is cut, after the end of the line of P.
+fn print_walk(out: &mut [u8; 65536], text: &[u8], at: usize, walk: Walk) {
     let state = walk.start;
-    prints::text(b"\n");
-    listings::print_line_at(text, at);
-    prints::labelled(b"  begun at line ", state.line() as u64);
-    prints::text(b": ");
-    answers::counts(walk);
+    prints::text(out, b"\n");
+    listings::print_line_at(out, text, line_of(text, at, walk));
+    prints::filled(out, b"  begun at line #: ", &[state.line() as u64]);
+    views::counts(out, walk);
 }
 
 // ---- the cuts
 // Makes a number of a walk's steps on copies of the pages, after which the walk is lost, and prints
 // what a read shows.
-fn cut_after<'a>(count: u32, walk: Walk, data: &[u8], left: &'a [u8], right: &'a [u8]) -> Verdict
+fn cut_after<'a>(
+    out: &mut [u8; 65536],
+    count: u32,
+    walk: Walk,
+    data: &[u8],
+    left: &'a [u8],
+    right: &'a [u8],
+) -> Verdict
     requires { ⌜ (length (now left) ≤ 4096) × (length (now right) ≤ 4096) ⌝ }
     ensures { λ r.
         ⌜ verdictIn r
@@ -207,16 +225,19 @@ fn cut_after<'a>(count: u32, walk: Walk, data: &[u8], left: &'a [u8], right: &'a
         &mut now_right[0..other],
         data,
     );
+    let request = walk.request;
     let offset = walk.offset;
     let verdict = verdicts::judge(
+        request,
         verdicts::image(&now_left[0..page], &now_right[0..other]),
         verdicts::image(left, right),
         offset,
         data,
     );
     print_cut(
+        out,
         count,
-        answers::total(walk),
+        walk,
         &now_left[0..page],
         &now_right[0..other],
         verdict,
@@ -225,7 +246,13 @@ fn cut_after<'a>(count: u32, walk: Walk, data: &[u8], left: &'a [u8], right: &'a
 }
 
 // Cuts a walk after each number of its steps.
-fn cut_each<'a>(walk: Walk, data: &[u8], left: &'a [u8], right: &'a [u8]) -> Tally
+fn cut_each<'a>(
+    out: &mut [u8; 65536],
+    walk: Walk,
+    data: &[u8],
+    left: &'a [u8],
+    right: &'a [u8],
+) -> Tally
     requires { ⌜ (length (now left) ≤ 4096) × (length (now right) ≤ 4096) ⌝ }
     ensures { λ r.
         ⌜ r
@@ -235,14 +262,21 @@ fn cut_each<'a>(walk: Walk, data: &[u8], left: &'a [u8], right: &'a [u8]) -> Tal
         (now (right .entry)) ⌝ }
 {
     let mut tally = Tally::new();
-    for count in 0..=answers::total(walk) {
-        tally = tally.with(cut_after(count, walk, data, left, right));
+    for count in 0..=walk.total() {
+        tally = tally.with(cut_after(out, count, walk, data, left, right));
     }
     tally
 }
 
-// Cuts a save of the line at a place, begun on these pages.
-fn cut_save<'a>(text: &[u8], at: usize, walk: Walk, left: &'a [u8], right: &'a [u8]) -> Tally
+// Cuts a walk of the line at a place, begun on these pages.
+fn cut_walk<'a>(
+    out: &mut [u8; 65536],
+    text: &[u8],
+    at: usize,
+    walk: Walk,
+    left: &'a [u8],
+    right: &'a [u8],
+) -> Tally
     requires { ⌜ (length (now left) ≤ 4096) × (length (now right) ≤ 4096) ⌝ }
     ensures { λ r.
         ⌜ r
@@ -253,18 +287,18 @@ fn cut_save<'a>(text: &[u8], at: usize, walk: Walk, left: &'a [u8], right: &'a [
 {
     let mut data = turns::blank();
     let size = turns::load(text, at, &mut data);
-    print_save(text, at, walk);
-    let tally = cut_each(walk, &data[0..size], left, right);
-    verdicts::print_tally(answers::total(walk) as u64 + 1, tally);
+    print_walk(out, text, at, walk);
+    let tally = cut_each(out, walk, &data[0..size], left, right);
+    views::print_tally(out, walk.total() as u64 + 1, tally);
     tally
 }
 
-// Makes a script, and prints the last save in it that is begun and its cuts, or that there is none.
-// Pages that differ in length, or are longer than any page, have no calls.
+// Makes a script, and prints the last save or format in it that is begun and its cuts, or that there
+// is none. Pages that differ in length, or are longer than any page, have no calls.
 pub fn run<'a>(
-    left_name: &[u8],
-    right_name: &[u8],
-    script_name: &[u8],
+    out: &mut [u8; 65536],
+    source: Source,
+    script: Name,
     text: &[u8],
     left: &'a [u8],
     right: &'a [u8],
@@ -285,12 +319,13 @@ pub fn run<'a>(
     let hand = last.hand;
     match hand {
         Hand::Empty => {
-            listings::fail(script_name, b": no save in it is begun\n");
+            arguments::fail(out, script, b": no save or format in it is begun\n");
             Tally::new()
         }
         Hand::Holding(walk) => {
-            views::heading(left_name, right_name, page);
-            cut_save(
+            loads::heading(out, source, page);
+            cut_walk(
+                out,
                 text,
                 last.at,
                 walk,

@@ -1,7 +1,6 @@
 // Runs those examples of document 01 that aren't starred and ask for a number, and compares: each is
 // asked as both reads, as a save and as a format. The layout of what it prints is in
 // docs/FORMATS.md.
-use libc::STDOUT_FILENO;
 use pages::PageOffset;
 use walks::Begun;
 use walks::Walk;
@@ -201,50 +200,54 @@ fn number_for(question: Question, number: u8) -> u8 {
 }
 
 // ---- printing
-fn print_number(label: &[u8], number: u64) {
-    io::write_all(STDOUT_FILENO, label);
-    io::print_decimal(STDOUT_FILENO, number);
-}
-
-fn print_answer(number: u8) {
+fn print_answer(out: &mut [u8; 65536], number: u8) {
     if number == 0 {
-        io::write_all(STDOUT_FILENO, b"legal");
+        prints::text(out, b"legal");
     } else {
-        print_number(b"number ", number as u64);
+        prints::labelled(out, b"number ", number as u64);
     }
 }
 
-fn print_vector(vector: Vector) {
-    print_number(b"P ", vector.0 as u64);
-    print_number(b", offset ", vector.1 as u64);
-    print_number(b", length ", vector.2 as u64);
+fn print_vector(out: &mut [u8; 65536], vector: Vector) {
+    prints::labelled(out, b"P ", vector.0 as u64);
+    prints::labelled(out, b", offset ", vector.1 as u64);
+    prints::labelled(out, b", length ", vector.2 as u64);
+}
+
+fn print_fit(out: &mut [u8; 65536], fitting: bool) {
+    if !fitting {
+        prints::text(out, b" with wrong bytes");
+    }
+}
+
+// Prints what document 01 gives where it is another number.
+fn print_wanted(out: &mut [u8; 65536], same: bool, number: u8) {
+    if !same {
+        prints::text(out, b", but document 01 gives ");
+        print_answer(out, number);
+    }
 }
 
 // Asks and prints the answer, and says whether it is document 01's.
-fn run_question(label: &[u8], question: Question, vector: Vector) -> bool {
+fn run_question(out: &mut [u8; 65536], label: &[u8], question: Question, vector: Vector) -> bool {
     let given = answer_to(question, vector);
     let number = number_for(question, vector.3);
-    io::write_all(STDOUT_FILENO, label);
-    print_answer(given.number);
-    if !given.fitting {
-        io::write_all(STDOUT_FILENO, b" with wrong bytes");
-    }
-    if given.number != number {
-        io::write_all(STDOUT_FILENO, b", but document 01 gives ");
-        print_answer(number);
-        return false;
-    }
-    given.fitting
+    let same = given.number == number;
+    prints::text(out, label);
+    print_answer(out, given.number);
+    print_fit(out, given.fitting);
+    print_wanted(out, same, number);
+    same & given.fitting
 }
 
 // Asks a vector in each way, and prints its line.
-fn run(vector: Vector) -> Right {
-    print_vector(vector);
-    let read = run_question(b": read ", Question::Read, vector);
-    let copy = run_question(b"; copy ", Question::Copy, vector);
-    let save = run_question(b"; save ", Question::Save, vector);
-    let format = run_question(b"; format ", Question::Format, vector);
-    io::write_all(STDOUT_FILENO, b"\n");
+fn run(out: &mut [u8; 65536], vector: Vector) -> Right {
+    print_vector(out, vector);
+    let read = run_question(out, b": read ", Question::Read, vector);
+    let copy = run_question(out, b"; copy ", Question::Copy, vector);
+    let save = run_question(out, b"; save ", Question::Save, vector);
+    let format = run_question(out, b"; format ", Question::Format, vector);
+    prints::text(out, b"\n");
     Right {
         read: read,
         copy: copy,
@@ -267,14 +270,14 @@ fn one_if_wrong(right: bool) -> u64
     if right { 0 } else { 1 }
 }
 
-fn run_all() -> Wrong {
+fn run_all(out: &mut [u8; 65536]) -> Wrong {
     let vectors = VECTORS;
     let mut reads: u64 = 0;
     let mut copies: u64 = 0;
     let mut saves: u64 = 0;
     let mut formats: u64 = 0;
     for i in 0..5 {
-        let right = run(vectors[i]);
+        let right = run(out, vectors[i]);
         reads += one_if_wrong(right.read);
         copies += one_if_wrong(right.copy);
         saves += one_if_wrong(right.save);
@@ -301,18 +304,21 @@ fn is_none(wrong: Wrong) -> bool {
     wrong.formats == 0
 }
 
-fn main() {
-    let wrong = run_all();
+fn run_program(out: &mut [u8; 65536]) {
+    let wrong = run_all(out);
     if is_none(wrong) {
-        io::write_all(
-            STDOUT_FILENO,
-            b"all 5 examples are as document 01 gives them\n",
-        );
+        prints::text(out, b"all 5 examples are as document 01 gives them\n");
     } else {
-        print_number(b"of 5 examples WRONG: read ", wrong.reads);
-        print_number(b", copy ", wrong.copies);
-        print_number(b", save ", wrong.saves);
-        print_number(b", format ", wrong.formats);
-        io::write_all(STDOUT_FILENO, b"\n");
+        prints::labelled(out, b"of 5 examples WRONG: read ", wrong.reads);
+        prints::labelled(out, b", copy ", wrong.copies);
+        prints::labelled(out, b", save ", wrong.saves);
+        prints::labelled(out, b", format ", wrong.formats);
+        prints::text(out, b"\n");
     }
+}
+
+fn main() {
+    let mut out = io::large_buffer();
+    run_program(&mut out);
+    prints::flush(&mut out);
 }

@@ -10,8 +10,10 @@ use native.Mathlib.Omega.{arith}
 use lib.Dec.{ltb}
 use lib.ListN.{length, drop, length-drop}
 use borrow.Author.Tests.{ltb-false}
-use Rattle.model.specs.Board.{answers}
+use Rattle.model.specs.Board.{powered, answers}
 use Rattle.model.specs.Orders.{Order, callsOf}
+use Rattle.boards.specs.declared.Hand.{Hand}
+use Rattle.boards.specs.declared.Hand.the-variants.{Empty}
 use Rattle.scripts.specs.declared.Item.{Item}
 use Rattle.scripts.specs.declared.Item.the-variants.{
   Save,
@@ -42,7 +44,7 @@ use Rattle.scripts.specs.Scripts.{
 use Rattle.scripts.proofs.Laws.{size-at, first-inside, first-nine, check-at, check-end, bad-first}
 use Rattle.replays.specs.declared.Ran.{Ran}
 use Rattle.replays.specs.Answers.{encoded}
-use Rattle.replays.specs.Runs.{boardOf, Run, running, followed, ordersOf}
+use Rattle.replays.specs.Runs.{noSpan, boardOf, Run, running, followed, ordersOf}
 use Rattle.replays.proofs.Items.{firstCalls}
 use Rattle.replays.proofs.Room.{item-fits}
 
@@ -76,6 +78,19 @@ ahead s size x z v =
       space = omega arith;
       same = refl;
     }
+
+pub ahead-from : (s : List ℕ) (place size : ℕ) (x y whole : Run) → y ≡ x → Ahead s place size x whole
+    → Ahead s place size y whole
+ahead-from s place size x y whole e a = subst (λ (z : Run). Ahead s place size z whole) (sym e) a
+
+-- with no walk in hand
+pub first-ahead : (s l r out : List ℕ) (hand : Hand) → hand ≡ Empty → found (checked s (length out)) .status ≡ 0
+    → Ahead s 0 (length out) (runIn s (record { hand = hand; held = noSpan; at = 0 }) l r out)
+    (running (ordersOf (checked s (length out)))
+    (record { board = powered l r; output = record { out = out; at = 0 } }))
+first-ahead s l r out hand e v =
+    ahead-from s 0 (length out) (record { board = powered l r; output = record { out = out; at = 0 } }) _ _
+    (ap (λ (h : Hand). runIn s (record { hand = h; held = noSpan; at = 0 }) l r out) e) (ahead s (length out) _ refl v)
 
 -- ---- after a call
 -- the findings after a call that is well formed and has room
@@ -174,10 +189,6 @@ pass s place size n item x whole h e k a = go (itemIn s place item) refl
 -- less lies ahead
 pub less-ahead : (size place n : ℕ) → place + n ≤ size → 0 < n → size - (place + n) < size - place
 less-ahead size place n h k = omega arith
-
-pub ahead-from : (s : List ℕ) (place size : ℕ) (x y whole : Run) → y ≡ x → Ahead s place size x whole
-    → Ahead s place size y whole
-ahead-from s place size x y whole e a = subst (λ (z : Run). Ahead s place size z whole) (sym e) a
 
 -- ---- at the end
 pub at-end : (s : List ℕ) (place size : ℕ) (x whole : Run) → length s ≤ place → Ahead s place size x whole → x ≡ whole

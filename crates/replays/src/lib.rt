@@ -343,8 +343,9 @@ fn run(left: &mut [u8], right: &mut [u8], script: &[u8], out: &mut [u8]) -> Ran
           output = record { out = now (out .entry); at = 0 };
         })) ⌝ }
 {
+    let hand = boards::empty_hand();
     let mut ran = Ran {
-        hand: Hand::Empty,
+        hand: hand,
         held: Span { start: 0, len: 0 },
         at: 0,
     };

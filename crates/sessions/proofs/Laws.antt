@@ -36,7 +36,8 @@ use Rattle.boards.specs.Boards.{
   madeOn,
   outAfter as lent,
 }
-use Rattle.texts.specs.Texts.{lineAt, nextLine, wordAt, bytesOf}
+use Rattle.texts.specs.Texts.{lineAt, nextLine, wordAt}
+use Rattle.digits.specs.Digits.{bytesOf}
 use Rattle.asks.specs.Asks as T
 use Rattle.asks.specs.Asks.{Asks, asksOf}
 use Rattle.turns.specs.declared.Turned.{Turned}

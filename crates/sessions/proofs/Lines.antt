@@ -8,8 +8,10 @@ use native.Mathlib.Omega.{arith}
 use lib.ListN.{length, replicate}
 use borrow.Author.Tests.{le-leb}
 use Rattle.pages.specs.declared.PageOffset.{PageOffset}
-use Rattle.texts.specs.Texts.{beforeFirst, lineAt, strideOf, wordAt, bytesOf}
-use Rattle.texts.proofs.Laws.{no-line, bytes-length}
+use Rattle.texts.specs.Texts.{beforeFirst, lineAt, strideOf, wordAt}
+use Rattle.digits.specs.Digits.{bytesOf}
+use Rattle.texts.proofs.Laws.{no-line}
+use Rattle.digits.proofs.Laws.{bytes-length}
 use Rattle.asks.specs.Asks as T
 use Rattle.asks.specs.Asks.{asksOf}
 use Rattle.asks.proofs.Right.{handed}

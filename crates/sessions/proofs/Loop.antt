@@ -20,7 +20,8 @@ use Rattle.model.specs.Decided.{isMade}
 use Rattle.model.specs.Orders.{Order, one, held, heldIn, callsFrom}
 use Rattle.model.proofs.Orders.{board-append}
 use Rattle.boards.specs.Boards.{handIn, boardIn}
-use Rattle.texts.specs.Texts.{beforeFirst, is, lineAt, nextLine, wordAt, bytesOf}
+use Rattle.texts.specs.Texts.{beforeFirst, is, lineAt, nextLine, wordAt}
+use Rattle.digits.specs.Digits.{bytesOf}
 use Rattle.asks.specs.Asks as T
 use Rattle.asks.specs.Asks.{Asks, asksOf}
 use Rattle.asks.proofs.Right.{handed}

@@ -14,7 +14,8 @@ use lib.Seq.{drop-drop}
 use borrow.Author.Tests.{ltb-false}
 use Rattle.flash.specs.Flash.{Bytes}
 use Rattle.pages.specs.declared.PageOffset.{PageOffset}
-use Rattle.texts.specs.Texts.{beforeFirst, is, upTo, lineAt, nextLine, wordAt, bytesOf}
+use Rattle.texts.specs.Texts.{beforeFirst, is, upTo, lineAt, nextLine, wordAt}
+use Rattle.digits.specs.Digits.{bytesOf}
 use Rattle.asks.specs.Asks as T
 use Rattle.asks.specs.Asks.{Asks, asksOf}
 use Rattle.walks.specs.Walks as W

@@ -20,16 +20,8 @@ use Rattle.boards.specs.declared.Answer.{Answer}
 use Rattle.boards.specs.declared.Answer as A
 use Rattle.boards.specs.Boards.{answerIn, boardIn, callsIn, outAfter as lent}
 use Rattle.turns.specs.Turns.{zeros, dataAt}
-use Rattle.texts.specs.Texts.{
-  ending,
-  onFrom,
-  trimmed,
-  withoutComment,
-  lineAt,
-  nextLine,
-  wordAt,
-  bytesOf,
-}
+use Rattle.texts.specs.Texts.{ending, onFrom, trimmed, withoutComment, lineAt, nextLine, wordAt}
+use Rattle.digits.specs.Digits.{bytesOf}
 use Rattle.asks.specs.Asks as T
 use Rattle.asks.specs.Asks.{Asks, asksOf}
 use Rattle.sessions.specs.declared.Session.{Session}

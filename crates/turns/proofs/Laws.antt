@@ -17,11 +17,12 @@ use Rattle.boards.specs.declared.Call.{Call}
 use Rattle.boards.specs.declared.Call as L
 use Rattle.boards.specs.declared.Turn.{Turn}
 use Rattle.boards.specs.Boards.{boardIn, turnIn, madeOn}
-use Rattle.texts.specs.Texts.{lineAt, nextLine, bytesOf, Decoded, decoded}
+use Rattle.texts.specs.Texts.{lineAt, nextLine}
+use Rattle.digits.specs.Digits.{bytesOf, Decoded, decoded}
 use Rattle.asks.specs.declared.Call as K
 use Rattle.asks.specs.Asks.{asksIn, asksOf}
 use Rattle.turns.specs.declared.Plan.{Plan}
-use Rattle.texts.proofs.Laws.{bytes-length}
+use Rattle.digits.proofs.Laws.{bytes-length}
 use Rattle.turns.specs.Turns.{loaded, fitting, zeros, madeNow, planFor, planFrom, planOf}
 
 pub blank-is : replicate 4096 0 ≡ zeros

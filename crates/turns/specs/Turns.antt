@@ -12,7 +12,8 @@ use Rattle.boards.specs.declared.Call as L
 use Rattle.boards.specs.declared.Answer.{Answer}
 use Rattle.boards.specs.declared.Answer as A
 use Rattle.boards.specs.declared.Turn.{Turn}
-use Rattle.texts.specs.Texts.{lineAt, nextLine, wordAt, bytesOf, Decoded}
+use Rattle.texts.specs.Texts.{lineAt, nextLine, wordAt}
+use Rattle.digits.specs.Digits.{bytesOf, Decoded}
 use Rattle.asks.specs.Asks as T
 use Rattle.asks.specs.Asks.{Asks, asksOf}
 use Rattle.turns.specs.declared.Turned.{Turned}

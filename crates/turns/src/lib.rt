@@ -10,7 +10,8 @@ ghost use Prim.Native.Nat.{_≤_};
 ghost use mathlib.Core.Path.{_≡_};
 ghost use lib.ListN.{length};
 ghost use Rattle.boards.specs.Boards.{boardIn, Made, turnIn, madeOn};
-ghost use Rattle.texts.specs.Texts.{lineAt, wordAt, bytesOf, Decoded};
+ghost use Rattle.texts.specs.Texts.{lineAt, wordAt};
+ghost use Rattle.digits.specs.Digits.{bytesOf, Decoded};
 ghost use Rattle.asks.specs.Asks.{asksIn};
 ghost use Rattle.turns.specs.Turns.{
   dataAt,
@@ -71,7 +72,7 @@ pub fn load(text: &[u8], place: usize, into: &mut [u8]) -> usize
     let digits = digits_at(text, place);
     let count = digits.len() / 2;
     let room = into.len();
-    let size = texts::decode(digits, into);
+    let size = digits::decode(digits, into);
     if count <= room {
         return size;
     }

@@ -18,6 +18,7 @@ use Rattle.pages.specs.declared.ImageOffset.{ImageOffset}
 use Rattle.pages.specs.Offsets.{toPage}
 use Rattle.pages.specs.Pages.{statusOf}
 use Rattle.pages.proofs.Laws.{page-offset}
+use Rattle.plans.specs.declared.Request.{Request}
 use Rattle.plans.specs.Counts.{cellCount}
 use Rattle.requests.proofs.Laws.{legal}
 use Rattle.reads.specs.Reads.{liveNumber, livePage, readNumber, readPart}
@@ -33,9 +34,10 @@ use Rattle.verdicts.specs.Verdicts.{
   newByte,
   isNew,
   isSaved,
+  isAsked,
   Shows,
   noImage,
-  another,
+  lostShows,
   imageVerdict,
   verdictOf,
   counted,
@@ -185,25 +187,25 @@ pub judged : (a b : List ℕ) (r new t u : Bool) (v : Shows) → (r ≡ true →
     → v ≡ imageVerdict t u → v ≡ imageVerdict (same a b) new
 judged a b r new t u v h e f g = g ∙ sym (ap₂ imageVerdict (same-is a b r t h e) f)
 
-pub shows : (image old : List ℕ) (o : PageOffset) (d : List ℕ) (t : Bool) (v : Shows) → 0 < length image
-    → t ≡ isSaved image old o d → v ≡ imageVerdict (same image old) t → v ≡ verdictOf image old o d
+pub shows : (q : Request) (image old : List ℕ) (o : PageOffset) (d : List ℕ) (t : Bool) (v : Shows) → 0 < length image
+    → t ≡ isAsked q image old o d → v ≡ imageVerdict (same image old) t → v ≡ verdictOf q image old o d
 unfolding verdictOf
-shows [] old o d t v h e f = absurd (omega (arith, h))
-shows (x ∷ xs) old o d t v h e f = f ∙ ap (imageVerdict (same (x ∷ xs) old)) e
+shows q [] old o d t v h e f = absurd (omega (arith, h))
+shows q (x ∷ xs) old o d t v h e f = f ∙ ap (imageVerdict (same (x ∷ xs) old)) e
 
-pub lost : (image old : List ℕ) (o : PageOffset) (d : List ℕ) → length image ≤ 0 → 0 < length old
-    → another ≡ verdictOf image old o d
+pub lost : (q : Request) (image old : List ℕ) (o : PageOffset) (d : List ℕ) (v : Shows) → length image ≤ 0
+    → 0 < length old → v ≡ lostShows q → v ≡ verdictOf q image old o d
 unfolding verdictOf
-lost [] [] o d h k = absurd (omega (arith, k))
-lost [] (y ∷ ys) o d h k = refl
-lost (x ∷ xs) old o d h k = absurd (omega (arith, h))
+lost q [] [] o d v h k e = absurd (omega (arith, k))
+lost q [] (y ∷ ys) o d v h k e = e
+lost q (x ∷ xs) old o d v h k e = absurd (omega (arith, h))
 
-pub never-there : (image old : List ℕ) (o : PageOffset) (d : List ℕ) → length image ≤ 0 → length old ≤ 0
-    → noImage ≡ verdictOf image old o d
+pub never-there : (q : Request) (image old : List ℕ) (o : PageOffset) (d : List ℕ) → length image ≤ 0 → length old ≤ 0
+    → noImage ≡ verdictOf q image old o d
 unfolding verdictOf
-never-there [] [] o d h k = refl
-never-there [] (y ∷ ys) o d h k = absurd (omega (arith, k))
-never-there (x ∷ xs) old o d h k = absurd (omega (arith, h))
+never-there q [] [] o d h k = refl
+never-there q [] (y ∷ ys) o d h k = absurd (omega (arith, k))
+never-there q (x ∷ xs) old o d h k = absurd (omega (arith, h))
 
 -- ---- counts
 pub counted-as : (t s : Tally) (v w : Shows) → v ≡ w → s ≡ counted t w → s ≡ counted t v

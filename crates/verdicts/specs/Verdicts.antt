@@ -1,5 +1,5 @@
--- What a read shows after a save was cut: the image before the save, the new one, or another (the
--- report of `--cuts` in docs/FORMATS.md).
+-- What a read shows after a save or a format was cut: the image before it, what it was to leave, or
+-- another (docs/FORMATS.md, "replay").
 -- In order: what a read shows; the new image, byte by byte; the verdict; counting verdicts.
 -- Laws: proofs/Laws.antt, where the new image is the old one with the data laid in. Assumes nothing.
 use Prim.Native.Nat.{ℕ, _+_, _-_, _*_, _%_, _^_}
@@ -10,6 +10,8 @@ use lib.ListN.{length, getD}
 use Rattle.pages.specs.declared.PageOffset.{PageOffset}
 use Rattle.pages.specs.declared.ImageOffset.{ImageOffset}
 use Rattle.pages.specs.Offsets.{toPage}
+use Rattle.plans.specs.declared.Request.{Request}
+use Rattle.plans.specs.declared.Request.the-variants.{Save, Format}
 use Rattle.plans.specs.Counts.{cellCount}
 use Rattle.reads.specs.Reads.{readPart}
 use Rattle.texts.specs.Texts.{same}
@@ -42,13 +44,15 @@ abbrev pub isSaved : List ℕ → List ℕ → PageOffset → List ℕ → Bool
 isSaved image old o d = leb (length image) 4096 && isNew image old o d 0
 
 -- ---- the verdict
--- "a read is answered 5, as before the save"; "shows the old image"; "shows the old image, which is
--- the new one too"; "shows the new image"; "shows ANOTHER IMAGE"
+-- "a read is answered 5, as before the save" (or format); "shows the old image, whole"; "shows the old
+-- image, whole, which is the new one too"; "shows the new image, whole"; "is answered 5, as the format
+-- has it"; "shows ANOTHER IMAGE"
 pub data Shows : Type 0 where
   noImage : Shows
   old : Shows
   both : Shows
   new : Shows
+  gone : Shows
   another : Shows
 
 abbrev pub verdictIn : Verdict → Shows
@@ -56,6 +60,7 @@ verdictIn D.the-variants.NoImage = noImage
 verdictIn D.the-variants.Old = old
 verdictIn D.the-variants.Both = both
 verdictIn D.the-variants.New = new
+verdictIn D.the-variants.Gone = gone
 verdictIn D.the-variants.Another = another
 
 abbrev pub imageVerdict : Bool → Bool → Shows
@@ -64,11 +69,22 @@ imageVerdict true false = old
 imageVerdict false true = new
 imageVerdict false false = another
 
--- what a read shows beside the image before the save; no bytes stand for no image
-unfoldable pub verdictOf : List ℕ → List ℕ → PageOffset → List ℕ → Shows
-verdictOf [] [] o d = noImage
-verdictOf [] (y ∷ ys) o d = another
-verdictOf (x ∷ xs) before o d = imageVerdict (same (x ∷ xs) before) (isSaved (x ∷ xs) before o d)
+-- whether an image is the one that a request is to leave; "of a format .. none"
+abbrev pub isAsked : Request → List ℕ → List ℕ → PageOffset → List ℕ → Bool
+isAsked Save image before o d = isSaved image before o d
+isAsked Format image before o d = false
+
+-- no image where there was one: what a format is to leave, and nothing that a save may show
+abbrev pub lostShows : Request → Shows
+lostShows Save = another
+lostShows Format = gone
+
+-- what a read shows beside the image before the request; no bytes stand for no image
+unfoldable pub verdictOf : Request → List ℕ → List ℕ → PageOffset → List ℕ → Shows
+verdictOf q [] [] o d = noImage
+verdictOf q [] (y ∷ ys) o d = lostShows q
+verdictOf q (x ∷ xs) before o d =
+    imageVerdict (same (x ∷ xs) before) (isAsked q (x ∷ xs) before o d)
 
 -- ---- counting
 abbrev pub oneMore : ℕ → ℕ
@@ -77,9 +93,11 @@ oneMore n = (n + 1) % 2 ^ 64
 abbrev pub noCuts : Tally
 noCuts = record { old = 0; new = 0; another = 0 }
 
--- with one verdict more; what a read shows where nothing new is to be seen counts as old
+-- with one verdict more; what a read shows where nothing new is to be seen counts as old, and what a
+-- format leaves as new
 abbrev pub counted : Tally → Shows → Tally
 counted t new = record { old = t .old; new = oneMore (t .new); another = t .another }
+counted t gone = record { old = t .old; new = oneMore (t .new); another = t .another }
 counted t another = record { old = t .old; new = t .new; another = oneMore (t .another) }
 counted t noImage = record { old = oneMore (t .old); new = t .new; another = t .another }
 counted t old = record { old = oneMore (t .old); new = t .new; another = t .another }

@@ -1,9 +1,11 @@
-// What a read shows after a save was cut: the image before the save, the new one, or another. What
-// each verdict means is in specs/Verdicts.antt; the lines that are printed are in docs/FORMATS.md.
+// What a read shows after a save or a format was cut: the image before it, what it was to leave, or
+// another. What each verdict means is in specs/Verdicts.antt.
 use pages::ImageOffset;
 use pages::PageOffset;
+use plans::Request;
 ghost use Prim.Native.Nat.{_≤_};
 ghost use mathlib.Core.Path.{_≡_};
+ghost use lib.Dec.{ltb};
 ghost use lib.ListN.{length};
 ghost use Rattle.texts.specs.Texts.{same};
 ghost use Rattle.verdicts.specs.Verdicts.{
@@ -12,6 +14,8 @@ ghost use Rattle.verdicts.specs.Verdicts.{
   newByte,
   isNew,
   isSaved,
+  isAsked,
+  lostShows,
   imageVerdict,
   verdictIn,
   verdictOf,
@@ -23,21 +27,22 @@ ghost use Rattle.verdicts.specs.Verdicts.{
 // The length of the longest image, and more.
 const MAX_PAGE: usize = pages::MAX_PAGE;
 
-// What a read shows after a cut: no image, as before the save; the image before it, which may be
-// the new one too; the new one; or another.
+// What a read shows after a cut: no image, as before; the image before, which may be the new one too;
+// the new one; no image, as a format is to leave; or another.
 pub enum Verdict {
     NoImage,
     Old,
     Both,
     New,
+    Gone,
     Another,
 }
 
 // How often a read showed what.
 pub struct Tally {
-    old: u64,
-    new: u64,
-    another: u64,
+    pub old: u64,
+    pub new: u64,
+    pub another: u64,
 }
 
 // ---- what a read shows
@@ -123,18 +128,40 @@ fn judge_image(image: &[u8], old: &[u8], new: bool) -> Verdict
     Verdict::Another
 }
 
-// What an image that a read shows is beside the one before a save of the data at a page offset. No
-// bytes stand for no image.
-pub fn judge(image: &[u8], old: &[u8], offset: PageOffset, data: &[u8]) -> Verdict
+// Whether an image is the one that a request is to leave: a format leaves none.
+fn is_asked(request: Request, image: &[u8], old: &[u8], offset: PageOffset, data: &[u8]) -> bool
+    ensures { λ r.
+        ⌜ r
+        ≡ isAsked request (now (image .entry)) (now (old .entry)) offset (now («data» .entry)) ⌝ }
+{
+    match request {
+        Request::Save => is_saved(image, old, offset, data),
+        Request::Format => false,
+    }
+}
+
+// What it is that no image is there where there was one.
+fn judge_lost(request: Request) -> Verdict
+    ensures { λ r. ⌜ verdictIn r ≡ lostShows request ⌝ }
+{
+    match request {
+        Request::Save => Verdict::Another,
+        Request::Format => Verdict::Gone,
+    }
+}
+
+// What an image that a read shows is beside the one before a format, or before a save of the data at
+// a page offset. No bytes stand for no image.
+pub fn judge(request: Request, image: &[u8], old: &[u8], offset: PageOffset, data: &[u8]) -> Verdict
     ensures { λ r.
         ⌜ verdictIn r
-        ≡ verdictOf (now (image .entry)) (now (old .entry)) offset (now («data» .entry)) ⌝ }
+        ≡ verdictOf request (now (image .entry)) (now (old .entry)) offset (now («data» .entry)) ⌝ }
 {
     if 0 < image.len() {
-        return judge_image(image, old, is_saved(image, old, offset, data));
+        return judge_image(image, old, is_asked(request, image, old, offset, data));
     }
     if 0 < old.len() {
-        return Verdict::Another;
+        return judge_lost(request);
     }
     Verdict::NoImage
 }
@@ -165,6 +192,9 @@ impl Tally {
             Verdict::New => {
                 next.new = one_more(self.new);
             }
+            Verdict::Gone => {
+                next.new = one_more(self.new);
+            }
             Verdict::Another => {
                 next.another = one_more(self.another);
             }
@@ -182,31 +212,9 @@ impl Tally {
     }
 }
 
-// ---- what is printed
-// Prints what a read does, after `a read `.
-pub fn print_verdict(verdict: Verdict) {
-    match verdict {
-        Verdict::NoImage => prints::text(b"is answered 5, as before the save\n"),
-        Verdict::Old => prints::text(b"shows the old image\n"),
-        Verdict::Both => prints::text(b"shows the old image, which is the new one too\n"),
-        Verdict::New => prints::text(b"shows the new image\n"),
-        Verdict::Another => prints::text(b"shows ANOTHER IMAGE\n"),
-    }
-}
-
-fn print_counts(tally: Tally) {
-    prints::labelled(b" cuts, old image: ", tally.old);
-    prints::labelled(b", new image: ", tally.new);
-    prints::labelled(b", another: ", tally.another);
-    prints::text(b"\n");
-}
-
-// Prints the last line, for a number of cuts.
-pub fn print_tally(cuts: u64, tally: Tally) {
-    if tally.another == 0 {
-        prints::labelled(b"ok: ", cuts);
-    } else {
-        prints::labelled(b"failed: ", cuts);
-    }
-    print_counts(tally);
+// Whether a read showed another image.
+pub fn has_another(tally: Tally) -> bool
+    ensures { λ r. ⌜ r ≡ ltb 0 (tally .another) ⌝ }
+{
+    0 < tally.another
 }

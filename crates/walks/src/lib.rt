@@ -189,6 +189,17 @@ impl Walk {
 
     pub const MAX_PAGE: usize = pages::MAX_PAGE;
 
+    // How many steps a walk has.
+    pub fn total(self) -> u32
+        ensures { λ r.
+            ⌜ r ≡ stepCount (self .request) (self .start) (self .erased) (self .page) ⌝ }
+    {
+        let request = self.request;
+        let start = self.start;
+        let page = self.page;
+        plans::step_count(request, start, self.erased, page)
+    }
+
     // Begins a save of the data at a page offset: gives the walk at its first place, or says which
     // of 1 to 4 refuses it. No page byte is changed, and none is looked at before the numbers are
     // found right. Each page is looked through at most once, and only where erased-or-not counts.

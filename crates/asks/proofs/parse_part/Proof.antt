@@ -1,6 +1,6 @@
 -- `asks::parse_part` meets its contract. Assumes nothing.
 use borrow.Author.Needs.{needs}
-use Rattle.texts.specs.declared.Number.the-variants as N
+use Rattle.digits.specs.declared.Number.the-variants as N
 use Rattle.asks.proofs.Laws.{number-told, part-bad, part-bad-2, part-long, part-good}
 use Rattle.asks.proofs.parse_part.Statement.{statement}
 use Rattle.asks.proofs.parse_part.Tie as tie

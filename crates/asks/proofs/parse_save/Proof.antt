@@ -1,6 +1,6 @@
 -- `asks::parse_save` meets its contract. Assumes nothing.
 use borrow.Author.Needs.{needs}
-use Rattle.texts.specs.declared.Number.the-variants as N
+use Rattle.digits.specs.declared.Number.the-variants as N
 use Rattle.asks.proofs.Laws.{number-told, save-bad, save-good}
 use Rattle.asks.proofs.parse_save.Statement.{statement}
 use Rattle.asks.proofs.parse_save.Tie as tie

@@ -55,6 +55,9 @@ answered-requires-2 c κs = search needs
 enum-told-2 : tie.Need-enum-told-2
 enum-told-2 c = search needs
 
+emptied-requires : tie.Need-emptied-requires
+emptied-requires c κs = search needs
+
 answered-requires-3 : tie.Need-answered-requires-3
 answered-requires-3 c κs = search needs
 
@@ -146,12 +149,13 @@ returns-5 c =
 
 returns-6 : tie.Need-returns-6
 returns-6 c =
-    let a = c .before .before .before .before .before .before .before .before .args in
+    let a = c .before .before .before .before .before .before .before .before .before .args in
     let b = boardIn (a .hand) (a .held .now) (a .left .now) (a .right .now) in
     of-call (a .call) Cut (c .answered3 .result) _ b (a .held .now) (a .«data» .now) _ _ (a .out .now) _
-    (c .before .enum-told2 .given .1)
+    (c .before .before .enum-told2 .given .1)
     (c .answered3 .ensures)
-    (cut-made (a .hand) (a .held .now) (a .«data» .now) (a .left .now) (a .right .now) (a .out .now))
+    (cut-made (a .hand) (c .before .emptied .result) (a .held .now) (a .«data» .now) (a .left .now) (a .right .now)
+    (a .out .now) (c .before .emptied .ensures))
 
 pub make-spec : {M : Type 1} → statement M
 make-spec =
@@ -173,6 +177,7 @@ make-spec =
     number-requires
     answered-requires-2
     enum-told-2
+    emptied-requires
     answered-requires-3
     same-length
     same-length-2

@@ -7,6 +7,9 @@ use Rattle.boards.proofs.step.Tie as tie
 enum-told : tie.Need-enum-told
 enum-told c = search needs
 
+answered-requires : tie.Need-answered-requires
+answered-requires c κs = search needs
+
 enum-known-hand : tie.Need-enum-known-hand
 enum-known-hand c = search needs
 
@@ -21,8 +24,9 @@ progress-answer-requires c κs = search needs
 
 returns : tie.Need-returns
 returns c =
-    let a = c .before .before .before .before .before .before .args in
-    no-walk (a .times) (a .hand) (a .held .now) (a .«data» .now) (a .left .now) (a .right .now) (c .enum-told .given .1)
+    let a = c .before .before .before .before .before .before .before .args in
+    no-walk (a .times) (a .hand) (c .answered .result) (a .held .now) (a .«data» .now) (a .left .now) (a .right .now)
+    (c .before .enum-told .given .1) (c .answered .ensures)
 
 same-length : tie.Need-same-length
 same-length c = search needs
@@ -47,6 +51,7 @@ step-spec =
     tie.close
     (tie.spec
     enum-told
+    answered-requires
     enum-known-hand
     handed-requires
     run-requires

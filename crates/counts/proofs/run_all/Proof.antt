@@ -1,16 +1,14 @@
--- `counts::run_all` is safe and ends. The loop's invariant: no more rows are wrong than were run. Assumes nothing.
+-- `counts::run_all` is safe and ends. No more rows are wrong than were run. Assumes nothing.
 use Prim.Native.Nat.{_≤_, _-_}
-use mathlib.Core.Logic.{⊎-elim}
-use native.Mathlib.Omega.{arith}
 use borrow.Author.Needs.{needs}
 use Rattle.counts.proofs.run_all.Statement.{statement}
 use Rattle.counts.proofs.run_all.Tie as tie
 
 abbrev Inv-loop : tie.InvT-loop
-Inv-loop rows wrong₀ i₀ wrong i = (i ≤ 14) × (wrong ≤ i)
+Inv-loop out₀ rows wrong₀ i₀ out wrong i = (i ≤ 14) × (wrong ≤ i)
 
 abbrev μ-loop : tie.MeasureT-loop
-μ-loop rows wrong₀ i₀ wrong i = 14 - i
+μ-loop out₀ rows wrong₀ i₀ out wrong i = 14 - i
 
 loop-holds : tie.Need-loop-holds Inv-loop μ-loop
 loop-holds c = search needs
@@ -24,17 +22,20 @@ array-copy-out-run c = search needs
 run-requires : tie.Need-run-requires Inv-loop μ-loop
 run-requires c κs = search needs
 
+one-if-wrong-requires : tie.Need-one-if-wrong-requires Inv-loop μ-loop
+one-if-wrong-requires c κs = search needs
+
 add-wrong : tie.Need-add-wrong Inv-loop μ-loop
 add-wrong c = search needs
 
 add-i : tie.Need-add-i Inv-loop μ-loop
-add-i c = omega arith
+add-i c = search needs
 
 loop-less : tie.Need-loop-less Inv-loop μ-loop
-loop-less c = omega arith
+loop-less c = search needs
 
 loop-again : tie.Need-loop-again Inv-loop μ-loop
-loop-again c = ⊎-elim (λ w. omega arith) (λ w. omega arith) (c .if1 .came)
+loop-again c = search needs
 
 returns : tie.Need-returns Inv-loop μ-loop
 returns c = search needs
@@ -49,6 +50,7 @@ run-all-spec =
     mul-run
     array-copy-out-run
     run-requires
+    one-if-wrong-requires
     add-wrong
     add-i
     loop-less

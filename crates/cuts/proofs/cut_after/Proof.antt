@@ -53,18 +53,12 @@ part-image-start : tie.Need-part-image-start
 part-image-start c = search needs
 
 part-image-end : tie.Need-part-image-end
-part-image-end c =
-    let a = c .before .before .before .before .before .before .before .before .before .before .before .before .before
-    .before .before .before .before .before .args in
+part-image-end c = let a = c .before .before .before .before .before .before .before .before .before .before .before .before .before .before .before .before .before .before .args in
     still-fits _ _ (c .before .before .before .before .run .last .1 .1 .0)
-    (c .before .before .before .before .before .before .before .before .before .before .before .before .before .before
-    .before .before .before .before .pre .0)
-    (copy-fits (a .left .now) (c .before .before .before .before .before .before .before .before .before .before
-    .before .before .before .before .blank .result) _
-    (c .before .before .before .before .before .before .before .before .before .before .before .before .before .before
-    .before .before .before .before .pre .0)
-    (c .before .before .before .before .before .before .before .before .before .before .before .before .before .before
-    .blank .ensures) (c .before .before .before .before .before .before .before .before .before .before .before .copy
+    (c .before .before .before .before .before .before .before .before .before .before .before .before .before .before .before .before .before .before .pre .0)
+    (copy-fits (a .left .now) (c .before .before .before .before .before .before .before .before .before .before .before .before .before .before .blank .result) _
+    (c .before .before .before .before .before .before .before .before .before .before .before .before .before .before .before .before .before .before .pre .0)
+    (c .before .before .before .before .before .before .before .before .before .before .before .before .before .before .blank .ensures) (c .before .before .before .before .before .before .before .before .before .before .before .copy
     .ensures) .1) (c .before .before .before .before .run .kept .1 .1 .0)
 
 sub-image-2 : tie.Need-sub-image-2
@@ -74,19 +68,12 @@ part-image-start-2 : tie.Need-part-image-start-2
 part-image-start-2 c = search needs
 
 part-image-end-2 : tie.Need-part-image-end-2
-part-image-end-2 c =
-    let a = c .before .before .before .before .before .before .before .before .before .before .before .before .before
-    .before .before .before .before .before .before .before .args in
+part-image-end-2 c = let a = c .before .before .before .before .before .before .before .before .before .before .before .before .before .before .before .before .before .before .before .before .args in
     still-fits _ _ (c .before .before .before .before .before .before .run .last .1 .1 .1 .0)
-    (c .before .before .before .before .before .before .before .before .before .before .before .before .before .before
-    .before .before .before .before .before .before .pre .1)
-    (copy-fits (a .right .now) (c .before .before .before .before .before .before .before .before .before .before
-    .before .before .before .before .before .blank2 .result) _
-    (c .before .before .before .before .before .before .before .before .before .before .before .before .before .before
-    .before .before .before .before .before .before .pre .1)
-    (c .before .before .before .before .before .before .before .before .before .before .before .before .before .before
-    .before .blank2 .ensures) (c .before .before .before .before .before .before .before .before .before .before
-    .copy2 .ensures) .1) (c .before .before .before .before .before .before .run .kept .1 .1 .1 .0)
+    (c .before .before .before .before .before .before .before .before .before .before .before .before .before .before .before .before .before .before .before .before .pre .1)
+    (copy-fits (a .right .now) (c .before .before .before .before .before .before .before .before .before .before .before .before .before .before .before .blank2 .result) _
+    (c .before .before .before .before .before .before .before .before .before .before .before .before .before .before .before .before .before .before .before .before .pre .1)
+    (c .before .before .before .before .before .before .before .before .before .before .before .before .before .before .before .blank2 .ensures) (c .before .before .before .before .before .before .before .before .before .before .copy2 .ensures) .1) (c .before .before .before .before .before .before .run .kept .1 .1 .1 .0)
 
 image-requires : tie.Need-image-requires
 image-requires c κs = search needs
@@ -97,9 +84,6 @@ image-requires-2 c κs = search needs
 judge-requires : tie.Need-judge-requires
 judge-requires c κs = search needs
 
-total-requires : tie.Need-total-requires
-total-requires c κs = search needs
-
 sub-print-cut : tie.Need-sub-print-cut
 sub-print-cut c = search needs
 
@@ -107,21 +91,12 @@ part-print-cut-start : tie.Need-part-print-cut-start
 part-print-cut-start c = search needs
 
 part-print-cut-end : tie.Need-part-print-cut-end
-part-print-cut-end c =
-    let a = c .before .before .before .before .before .before .before .before .before .before .before .before .before
-    .before .before .before .before .before .before .before .before .before .before .before .before .before .args in
-    still-fits _ _ (c .before .before .before .before .before .before .before .before .before .before .before .before
-    .run .last .1 .1 .0) (c .before .before .before .before .before .before .before .before .before .before .before
-    .before .before .before .before .before .before .before .before .before .before .before .before .before .before
-    .before .pre .0)
-    (copy-fits (a .left .now) (c .before .before .before .before .before .before .before .before .before .before
-    .before .before .before .before .before .before .before .before .before .before .before .before .blank .result) _
-    (c .before .before .before .before .before .before .before .before .before .before .before .before .before .before
-    .before .before .before .before .before .before .before .before .before .before .before .before .pre .0)
-    (c .before .before .before .before .before .before .before .before .before .before .before .before .before .before
-    .before .before .before .before .before .before .before .before .blank .ensures)
-    (c .before .before .before .before .before .before .before .before .before .before .before .before .before .before
-    .before .before .before .before .before .copy .ensures) .1)
+part-print-cut-end c = let a = c .before .before .before .before .before .before .before .before .before .before .before .before .before .before .before .before .before .before .before .before .before .before .before .before .before .before .args in
+    still-fits _ _ (c .before .before .before .before .before .before .before .before .before .before .before .before .run .last .1 .1 .0) (c .before .before .before .before .before .before .before .before .before .before .before .before .before .before .before .before .before .before .before .before .before .before .before .before .before .before .pre .0)
+    (copy-fits (a .left .now) (c .before .before .before .before .before .before .before .before .before .before .before .before .before .before .before .before .before .before .before .before .before .before .blank .result) _
+    (c .before .before .before .before .before .before .before .before .before .before .before .before .before .before .before .before .before .before .before .before .before .before .before .before .before .before .pre .0)
+    (c .before .before .before .before .before .before .before .before .before .before .before .before .before .before .before .before .before .before .before .before .before .before .blank .ensures)
+    (c .before .before .before .before .before .before .before .before .before .before .before .before .before .before .before .before .before .before .before .copy .ensures) .1)
     (c .before .before .before .before .before .before .before .before .before .before .before .before .run .kept .1
     .1 .0)
 
@@ -132,61 +107,30 @@ part-print-cut-start-2 : tie.Need-part-print-cut-start-2
 part-print-cut-start-2 c = search needs
 
 part-print-cut-end-2 : tie.Need-part-print-cut-end-2
-part-print-cut-end-2 c =
-    let a = c .before .before .before .before .before .before .before .before .before .before .before .before .before
-    .before .before .before .before .before .before .before .before .before .before .before .before .before .before
-    .before .args in
-    still-fits _ _ (c .before .before .before .before .before .before .before .before .before .before .before .before
-    .before .before .run .last .1 .1 .1 .0)
-    (c .before .before .before .before .before .before .before .before .before .before .before .before .before .before
-    .before .before .before .before .before .before .before .before .before .before .before .before .before .before
-    .pre .1)
-    (copy-fits (a .right .now) (c .before .before .before .before .before .before .before .before .before .before
-    .before .before .before .before .before .before .before .before .before .before .before .before .before .blank2
-    .result) _ (c .before .before .before .before .before .before .before .before .before .before .before .before
-    .before .before .before .before .before .before .before .before .before .before .before .before .before .before
-    .before .before .pre .1) (c .before .before .before .before .before .before .before .before .before .before
-    .before .before .before .before .before .before .before .before .before .before .before .before .before .blank2
-    .ensures) (c .before .before .before .before .before .before .before .before .before .before .before .before
-    .before .before .before .before .before .before .copy2 .ensures) .1)
-    (c .before .before .before .before .before .before .before .before .before .before .before .before .before .before
-    .run .kept .1 .1 .1 .0)
+part-print-cut-end-2 c = let a = c .before .before .before .before .before .before .before .before .before .before .before .before .before .before .before .before .before .before .before .before .before .before .before .before .before .before .before .before .args in
+    still-fits _ _ (c .before .before .before .before .before .before .before .before .before .before .before .before .before .before .run .last .1 .1 .1 .0)
+    (c .before .before .before .before .before .before .before .before .before .before .before .before .before .before .before .before .before .before .before .before .before .before .before .before .before .before .before .before .pre .1)
+    (copy-fits (a .right .now) (c .before .before .before .before .before .before .before .before .before .before .before .before .before .before .before .before .before .before .before .before .before .before .before .blank2
+    .result) _ (c .before .before .before .before .before .before .before .before .before .before .before .before .before .before .before .before .before .before .before .before .before .before .before .before .before .before .before .before .pre .1) (c .before .before .before .before .before .before .before .before .before .before .before .before .before .before .before .before .before .before .before .before .before .before .before .blank2
+    .ensures) (c .before .before .before .before .before .before .before .before .before .before .before .before .before .before .before .before .before .before .copy2 .ensures) .1)
+    (c .before .before .before .before .before .before .before .before .before .before .before .before .before .before .run .kept .1 .1 .1 .0)
 
 print-cut-requires : tie.Need-print-cut-requires
 print-cut-requires c κs = search needs
 
 returns : tie.Need-returns
-returns c =
-    let a = c .before .before .before .before .before .before .before .before .before .before .before .before .before
-    .before .before .before .before .before .before .before .before .before .before .before .before .before .before
-    .before .before .before .args in
-    cut-judged (a .count) (a .walk) (c .before .before .before .before .before .before .before .before .before .before
-    .before .before .before .before .before .before .run .result) (a .«data» .now) (a .left .now) (a .right .now)
-    (c .before .before .before .before .before .before .before .before .before .before .before .before .before .before
-    .before .before .before .before .before .before .before .before .before .before .before .before .blank .result)
-    (c .before .before .before .before .before .before .before .before .before .before .before .before .before .before
-    .before .before .before .before .before .before .before .before .before .before .before .blank2 .result) _ _
-    (c .before .before .before .before .before .before .before .before .before .before .before .before .before .before
-    .before .before .run .last .1 .1 .0) (c .before .before .before .before .before .before .before .before .before
-    .before .before .before .before .before .before .before .run .last .1 .1 .1 .0) _ _ _
-    (c .before .before .before .before .before .before .before .before .before .before .before .before .before .before
-    .before .before .before .before .before .before .before .before .before .before .before .before .before .before
-    .before .before .pre .0) (c .before .before .before .before .before .before .before .before .before .before
-    .before .before .before .before .before .before .before .before .before .before .before .before .before .before
-    .before .before .before .before .before .before .pre .1)
-    (c .before .before .before .before .before .before .before .before .before .before .before .before .before .before
-    .before .before .before .before .before .before .before .before .before .before .before .before .blank .ensures)
-    (c .before .before .before .before .before .before .before .before .before .before .before .before .before .before
-    .before .before .before .before .before .before .before .before .before .before .before .blank2 .ensures)
-    (c .before .before .before .before .before .before .before .before .before .before .before .before .before .before
-    .before .before .before .before .before .before .before .before .before .copy .ensures)
-    (c .before .before .before .before .before .before .before .before .before .before .before .before .before .before
-    .before .before .before .before .before .before .copy2 .ensures)
-    (c .before .before .before .before .before .before .before .before .before .before .before .before .before .before
-    .before .before .run .ensures)
-    (c .before .before .before .before .before .before .before .before .before .before .before .before .before .before
-    .before .before .run .kept .1 .1 .0) (c .before .before .before .before .before .before .before .before .before
-    .before .before .before .before .before .before .before .run .kept .1 .1 .1 .0)
+returns c = let a = c .before .before .before .before .before .before .before .before .before .before .before .before .before .before .before .before .before .before .before .before .before .before .before .before .before .before .before .before .before .before .args in
+    cut-judged (a .count) (a .walk) (c .before .before .before .before .before .before .before .before .before .before .before .before .before .before .before .before .run .result) (a .«data» .now) (a .left .now) (a .right .now)
+    (c .before .before .before .before .before .before .before .before .before .before .before .before .before .before .before .before .before .before .before .before .before .before .before .before .before .before .blank .result)
+    (c .before .before .before .before .before .before .before .before .before .before .before .before .before .before .before .before .before .before .before .before .before .before .before .before .before .blank2 .result) _ _
+    (c .before .before .before .before .before .before .before .before .before .before .before .before .before .before .before .before .run .last .1 .1 .0) (c .before .before .before .before .before .before .before .before .before .before .before .before .before .before .before .before .run .last .1 .1 .1 .0) _ _ _
+    (c .before .before .before .before .before .before .before .before .before .before .before .before .before .before .before .before .before .before .before .before .before .before .before .before .before .before .before .before .before .before .pre .0) (c .before .before .before .before .before .before .before .before .before .before .before .before .before .before .before .before .before .before .before .before .before .before .before .before .before .before .before .before .before .before .pre .1)
+    (c .before .before .before .before .before .before .before .before .before .before .before .before .before .before .before .before .before .before .before .before .before .before .before .before .before .before .blank .ensures)
+    (c .before .before .before .before .before .before .before .before .before .before .before .before .before .before .before .before .before .before .before .before .before .before .before .before .before .blank2 .ensures)
+    (c .before .before .before .before .before .before .before .before .before .before .before .before .before .before .before .before .before .before .before .before .before .before .before .copy .ensures)
+    (c .before .before .before .before .before .before .before .before .before .before .before .before .before .before .before .before .before .before .before .before .copy2 .ensures)
+    (c .before .before .before .before .before .before .before .before .before .before .before .before .before .before .before .before .run .ensures)
+    (c .before .before .before .before .before .before .before .before .before .before .before .before .before .before .before .before .run .kept .1 .1 .0) (c .before .before .before .before .before .before .before .before .before .before .before .before .before .before .before .before .run .kept .1 .1 .1 .0)
     (c .before .before .before .before .before .before .before .before .image .ensures)
     (c .before .before .before .before .before .before .before .image2 .ensures)
     (c .before .before .before .before .before .before .judge .ensures)
@@ -217,7 +161,6 @@ cut-after-spec =
     image-requires
     image-requires-2
     judge-requires
-    total-requires
     sub-print-cut
     part-print-cut-start
     part-print-cut-end

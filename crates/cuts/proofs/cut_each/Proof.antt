@@ -9,11 +9,12 @@ use Rattle.cuts.proofs.cut_each.Statement.{statement}
 use Rattle.cuts.proofs.cut_each.Tie as tie
 
 abbrev Inv-loop : tie.InvT-loop
-Inv-loop walk «data» left right tally₀ count₀ count-end tally count =
+Inv-loop out₀ walk «data» left right tally₀ count₀ count-end out tally count =
     (count ≤ count-end) × (tally ≡ tallied count walk «data» left right)
 
 abbrev μ-loop : tie.MeasureT-loop
-μ-loop walk «data» left right tally₀ count₀ count-end tally count = count-end - count
+μ-loop out₀ walk «data» left right tally₀ count₀ count-end out tally count =
+    count-end - count
 
 new-requires : tie.Need-new-requires Inv-loop μ-loop
 new-requires c κs = search needs
@@ -22,8 +23,7 @@ total-requires : tie.Need-total-requires Inv-loop μ-loop
 total-requires c κs = search needs
 
 loop-holds : tie.Need-loop-holds Inv-loop μ-loop
-loop-holds c =
-    let a = c .before .before .before .before .before .args in
+loop-holds c = let a = c .before .before .before .before .before .args in
     (omega arith, no-tally (a .walk) (a .«data» .now) (a .left .now) (a .right .now) _ (c .before .new .ensures))
 
 cut-after-requires : tie.Need-cut-after-requires Inv-loop μ-loop
@@ -39,9 +39,8 @@ loop-less : tie.Need-loop-less Inv-loop μ-loop
 loop-less c = search needs
 
 loop-again : tie.Need-loop-again Inv-loop μ-loop
-loop-again c =
-    let a = c .before .before .before .before .before .before .before .before .before .before .args in
-    let loop = c .before .before .before .before .loop in (
+loop-again c = let a = c .before .before .before .before .before .before .before .before .before .before .before .args in
+    let loop = c .before .before .before .before .before .loop in (
       omega arith,
       tally-next (loop .count) _ (a .walk) (a .«data» .now) (a .left .now) (a .right .now) (loop .tally) _ _ refl
           (loop .inv .1)
@@ -52,12 +51,11 @@ returns : tie.Need-returns Inv-loop μ-loop
 returns c = absurd (omega (arith, c .before .loop .inv .0, c .loop-test .left))
 
 returns-2 : tie.Need-returns-2 Inv-loop μ-loop
-returns-2 c =
-    let a = c .before .before .before .before .before .before .before .before .before .before .args in
-    let loop = c .before .before .before .before .loop in
+returns-2 c = let a = c .before .before .before .before .before .before .before .before .before .before .before .args in
+    let loop = c .before .before .before .before .before .loop in
     let last : loop .count ≡ totalOf (a .walk) =
-    (let same : loop .count ≡ c .before .before .before .before .before .total .result = omega
-    (arith, loop .inv .0, c .if1 .left) in same ∙ c .before .before .before .before .before .total .ensures) in
+    (let same : loop .count ≡ c .before .before .before .before .before .before .total .result = omega
+    (arith, loop .inv .0, c .if1 .left) in same ∙ c .before .before .before .before .before .before .total .ensures) in
     tally-next (loop .count) _ (a .walk) (a .«data» .now) (a .left .now) (a .right .now) (loop .tally) _ _ (ap (λ
     (n : ℕ). n + 1) (sym last))
     (loop .inv .1) (c .before .before .cut-after .ensures) (c .before .with .ensures)

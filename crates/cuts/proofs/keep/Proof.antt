@@ -4,14 +4,14 @@ use borrow.Author.Needs.{needs}
 use Rattle.cuts.proofs.keep.Statement.{statement}
 use Rattle.cuts.proofs.keep.Tie as tie
 
-begins-save-requires : tie.Need-begins-save-requires
-begins-save-requires c κs = search needs
+begins-walk-requires : tie.Need-begins-walk-requires
+begins-walk-requires c κs = search needs
 
 returns : tie.Need-returns
 returns c =
     let a = c .before .before .before .before .before .before .args in
     kept-not (a .answered) (a .last) (a .now-left .now) (a .now-right .now) (a .kept-left .now) (a .kept-right .now) _
-    (c .before .begins-save .ensures) (c .if1 .taken)
+    (c .before .begins-walk .ensures) (c .if1 .taken)
 
 copy-requires : tie.Need-copy-requires
 copy-requires c κs = search needs
@@ -31,7 +31,7 @@ returns-2 c =
     .before .before .args in
     kept-one (a .answered) (a .last) (a .now-left .now) (a .now-right .now) (a .kept-left .now)
     (a .kept-right .now) _ _ _ (c .before .before .before .before .before .before .before .before .before .before
-    .begins-save .ensures) (c .before .before .before .before .before .before .before .before .before .if1 .left)
+    .begins-walk .ensures) (c .before .before .before .before .before .before .before .before .before .if1 .left)
     (c .before .before .before .before .before .before .before .copy .ensures)
     (c .before .before .before .copy2 .ensures)
 
@@ -39,7 +39,7 @@ pub keep-spec : {M : Type 1} → statement M
 keep-spec =
     tie.close
     (tie.spec
-    begins-save-requires
+    begins-walk-requires
     returns
     copy-requires
     copy-requires-2

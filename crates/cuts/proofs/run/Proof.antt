@@ -9,16 +9,14 @@ new-requires : tie.Need-new-requires
 new-requires c κs = search needs
 
 returns : tie.Need-returns
-returns c =
-    let a = c .before .before .before .before .before .before .before .before .args in
+returns c = let a = c .before .before .before .before .before .args in
     too-long (a .text .now) (a .left .now) (a .right .now) _ (c .new .ensures) (c .before .if1 .taken)
 
 new-requires-2 : tie.Need-new-requires-2
 new-requires-2 c κs = search needs
 
 returns-2 : tie.Need-returns-2
-returns-2 c =
-    let a = c .before .before .before .before .before .before .before .before .before .args in
+returns-2 c = let a = c .before .before .before .before .before .before .args in
     unlike (a .text .now) (a .left .now) (a .right .now) _ (c .new2 .ensures) (c .before .if2 .taken)
 
 blank-requires : tie.Need-blank-requires
@@ -54,48 +52,44 @@ enum-known-hand c = search needs
 heading-requires : tie.Need-heading-requires
 heading-requires c κs = search needs
 
-sub-cut-save : tie.Need-sub-cut-save
-sub-cut-save c = search needs
+sub-cut-walk : tie.Need-sub-cut-walk
+sub-cut-walk c = search needs
 
-part-cut-save-start : tie.Need-part-cut-save-start
-part-cut-save-start c = search needs
+part-cut-walk-start : tie.Need-part-cut-walk-start
+part-cut-walk-start c = search needs
 
-part-cut-save-end : tie.Need-part-cut-save-end
-part-cut-save-end c = search needs
+part-cut-walk-end : tie.Need-part-cut-walk-end
+part-cut-walk-end c = search needs
 
-sub-cut-save-2 : tie.Need-sub-cut-save-2
-sub-cut-save-2 c = search needs
+sub-cut-walk-2 : tie.Need-sub-cut-walk-2
+sub-cut-walk-2 c = search needs
 
-part-cut-save-start-2 : tie.Need-part-cut-save-start-2
-part-cut-save-start-2 c = search needs
+part-cut-walk-start-2 : tie.Need-part-cut-walk-start-2
+part-cut-walk-start-2 c = search needs
 
-part-cut-save-end-2 : tie.Need-part-cut-save-end-2
-part-cut-save-end-2 c = search needs
+part-cut-walk-end-2 : tie.Need-part-cut-walk-end-2
+part-cut-walk-end-2 c = search needs
 
-cut-save-requires : tie.Need-cut-save-requires
-cut-save-requires c κs = search needs
+cut-walk-requires : tie.Need-cut-walk-requires
+cut-walk-requires c κs = search needs
 
 returns-3 : tie.Need-returns-3
-returns-3 c =
-    let a = c .before .before .before .before .before .before .before .before .before .before .before .before .before
-    .before .before .before .before .before .before .before .args in
+returns-3 c = let a = c .before .before .before .before .before .before .before .before .before .before .before .before .before .before .before .before .before .before .args in
     tally-none (a .text .now) (a .left .now) (a .right .now) _ _
-    (c .before .before .before .before .before .before .before .find-last .result) _
-    (c .before .before .before .enum-told .given .1)
-    (c .before .before .before .before .before .before .before .find-last .ensures) (c .new3 .ensures)
+    (c .before .before .before .before .before .before .before .before .find-last .result) _
+    (c .before .before .before .before .enum-told .given .1)
+    (c .before .before .before .before .before .before .before .before .find-last .ensures) (c .new3 .ensures)
 
 returns-4 : tie.Need-returns-4
-returns-4 c =
-    let a = c .before .before .before .before .before .before .before .before .before .before .before .before .before
-    .before .before .before .before .before .before .before .before .before .before .before .args in
+returns-4 c = let a = c .before .before .before .before .before .before .before .before .before .before .before .before .before .before .before .before .before .before .before .before .before .before .before .args in
     tally-one (a .text .now) (a .left .now) (a .right .now)
-    (c .before .before .before .before .before .before .before .before .before .before .before .find-last .last .1 .1
-    .1 .0) (c .before .before .before .before .before .before .before .before .before .before .before .find-last .last
+    (c .before .before .before .before .before .before .before .before .before .before .before .before .before .find-last .last .1 .1
+    .1 .0) (c .before .before .before .before .before .before .before .before .before .before .before .before .before .find-last .last
     .1 .1 .1 .1 .0) (length (a .left .now)) _
-    (c .before .before .before .before .before .before .before .before .before .before .before .find-last .result) _
-    (c .before .before .before .before .before .before .before .hand .given .1)
-    (c .before .before .before .before .before .before .before .before .before .before .before .find-last .ensures)
-    (c .cut-save .ensures)
+    (c .before .before .before .before .before .before .before .before .before .before .before .before .before .find-last .result) _
+    (c .before .before .before .before .before .before .before .before .before .hand .given .1)
+    (c .before .before .before .before .before .before .before .before .before .before .before .before .before .find-last .ensures)
+    (c .cut-walk .ensures)
 
 pub run-spec : {M : Type 1} → statement M
 run-spec =
@@ -116,12 +110,12 @@ run-spec =
     new-requires-3
     enum-known-hand
     heading-requires
-    sub-cut-save
-    part-cut-save-start
-    part-cut-save-end
-    sub-cut-save-2
-    part-cut-save-start-2
-    part-cut-save-end-2
-    cut-save-requires
+    sub-cut-walk
+    part-cut-walk-start
+    part-cut-walk-end
+    sub-cut-walk-2
+    part-cut-walk-start-2
+    part-cut-walk-end-2
+    cut-walk-requires
     returns-3
     returns-4)

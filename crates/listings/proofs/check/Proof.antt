@@ -1,17 +1,15 @@
--- `listings::check` is safe and ends. The loop's invariant: a line takes at least a byte of the text. Assumes nothing.
-use Prim.Native.Nat.{_-_, _≤_}
+-- `listings::check` is safe and ends. A line takes at least a byte of the text. Assumes nothing.
+use Prim.Native.Nat.{_≤_, _-_}
 use lib.ListN.{length}
 use borrow.Author.Needs.{needs}
 use Rattle.listings.proofs.check.Statement.{statement}
 use Rattle.listings.proofs.check.Tie as tie
 
 abbrev Inv-loop : tie.InvT-loop
-Inv-loop name text at₀ number₀ calls₀ at number calls =
-    (at ≤ length text) × (number ≤ at)
+Inv-loop out₀ name text at₀ number₀ calls₀ t8 out at number calls = (at ≤ length text) × (number ≤ at)
 
 abbrev μ-loop : tie.MeasureT-loop
-μ-loop name text at₀ number₀ calls₀ at number calls =
-    length text - at
+μ-loop out₀ name text at₀ number₀ calls₀ t8 out at number calls = length text - at
 
 loop-holds : tie.Need-loop-holds Inv-loop μ-loop
 loop-holds c = search needs
@@ -37,8 +35,11 @@ loop-less c = search needs
 loop-again : tie.Need-loop-again Inv-loop μ-loop
 loop-again c = search needs
 
-fail-empty-requires : tie.Need-fail-empty-requires Inv-loop μ-loop
-fail-empty-requires c κs = search needs
+slice-aggregate-fail : tie.Need-slice-aggregate-fail Inv-loop μ-loop
+slice-aggregate-fail c = search needs
+
+fail-requires : tie.Need-fail-requires Inv-loop μ-loop
+fail-requires c κs = search needs
 
 returns-2 : tie.Need-returns-2 Inv-loop μ-loop
 returns-2 c = search needs
@@ -60,6 +61,7 @@ check-spec =
     next-line-requires
     loop-less
     loop-again
-    fail-empty-requires
+    slice-aggregate-fail
+    fail-requires
     returns-2
     returns-3)

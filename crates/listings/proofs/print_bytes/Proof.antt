@@ -1,15 +1,14 @@
--- `listings::print_bytes` is safe and ends. Assumes nothing.
-use Prim.Native.Nat.{_-_, _≤_}
-use lib.ListN.{length}
+-- `listings::print_bytes` is safe and ends. The loop goes through the line. Assumes nothing.
+use Prim.Native.Nat.{_≤_, _-_}
 use borrow.Author.Needs.{needs}
 use Rattle.listings.proofs.print_bytes.Statement.{statement}
 use Rattle.listings.proofs.print_bytes.Tie as tie
 
 abbrev Inv-loop : tie.InvT-loop
-Inv-loop line i₀ i-end i = i ≤ length line
+Inv-loop out₀ line i₀ i-end out i = (i ≤ i-end)
 
 abbrev μ-loop : tie.MeasureT-loop
-μ-loop line i₀ i-end i = length line - i
+μ-loop out₀ line i₀ i-end out i = i-end - i
 
 loop-holds : tie.Need-loop-holds Inv-loop μ-loop
 loop-holds c = search needs
@@ -20,11 +19,8 @@ shared-slice-read-blank-for-tab c = search needs
 blank-for-tab-requires : tie.Need-blank-for-tab-requires Inv-loop μ-loop
 blank-for-tab-requires c κs = search needs
 
-slice-aggregate-text : tie.Need-slice-aggregate-text Inv-loop μ-loop
-slice-aggregate-text c = search needs
-
-text-requires : tie.Need-text-requires Inv-loop μ-loop
-text-requires c κs = search needs
+escaped-byte-requires : tie.Need-escaped-byte-requires Inv-loop μ-loop
+escaped-byte-requires c κs = search needs
 
 add-i : tie.Need-add-i Inv-loop μ-loop
 add-i c = search needs
@@ -47,8 +43,7 @@ print-bytes-spec =
     loop-holds
     shared-slice-read-blank-for-tab
     blank-for-tab-requires
-    slice-aggregate-text
-    text-requires
+    escaped-byte-requires
     add-i
     loop-less
     loop-again

@@ -1,15 +1,15 @@
--- `listings::print_line_at` is safe and ends. The loop's invariant: a line takes at least a byte of the text. Assumes nothing.
-use Prim.Native.Nat.{_-_, _≤_}
+-- `listings::print_line_at` is safe and ends. A line takes at least a byte of the text. Assumes nothing.
+use Prim.Native.Nat.{_≤_, _-_}
 use lib.ListN.{length}
 use borrow.Author.Needs.{needs}
 use Rattle.listings.proofs.print_line_at.Statement.{statement}
 use Rattle.listings.proofs.print_line_at.Tie as tie
 
 abbrev Inv-loop : tie.InvT-loop
-Inv-loop text place at₀ number₀ at number = at ≤ length text
+Inv-loop out₀ text place at₀ number₀ out at number = (at ≤ length text)
 
 abbrev μ-loop : tie.MeasureT-loop
-μ-loop text place at₀ number₀ at number = length text - at
+μ-loop out₀ text place at₀ number₀ out at number = length text - at
 
 loop-holds : tie.Need-loop-holds Inv-loop μ-loop
 loop-holds c = search needs
@@ -17,8 +17,11 @@ loop-holds c = search needs
 line-at-requires : tie.Need-line-at-requires Inv-loop μ-loop
 line-at-requires c κs = search needs
 
-print-line-requires : tie.Need-print-line-requires Inv-loop μ-loop
-print-line-requires c κs = search needs
+comment-at-requires : tie.Need-comment-at-requires Inv-loop μ-loop
+comment-at-requires c κs = search needs
+
+print-call-requires : tie.Need-print-call-requires Inv-loop μ-loop
+print-call-requires c κs = search needs
 
 returns : tie.Need-returns Inv-loop μ-loop
 returns c = search needs
@@ -46,7 +49,8 @@ print-line-at-spec =
     μ-loop
     loop-holds
     line-at-requires
-    print-line-requires
+    comment-at-requires
+    print-call-requires
     returns
     wrapping-add-u64-requires
     next-line-requires

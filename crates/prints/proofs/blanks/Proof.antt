@@ -5,10 +5,10 @@ use Rattle.prints.proofs.blanks.Statement.{statement}
 use Rattle.prints.proofs.blanks.Tie as tie
 
 abbrev Inv-loop : tie.InvT-loop
-Inv-loop count t2 counter₀ counter = counter ≤ count
+Inv-loop out₀ count t3 counter₀ out counter = (counter ≤ count)
 
 abbrev μ-loop : tie.MeasureT-loop
-μ-loop count t2 counter₀ counter = count - counter
+μ-loop out₀ count t3 counter₀ out counter = count - counter
 
 loop-holds : tie.Need-loop-holds Inv-loop μ-loop
 loop-holds c = search needs

@@ -1,16 +1,16 @@
 -- `prints::capitals` is safe and ends. The loop keeps the length of the digits. Assumes nothing.
 use Prim.Native.Nat.{_≤_, _-_}
+use mathlib.Core.Path.{_≡_}
 use lib.ListN.{length}
 use borrow.Author.Needs.{needs}
-use mathlib.Core.Path.{_≡_}
 use Rattle.prints.proofs.capitals.Statement.{statement}
 use Rattle.prints.proofs.capitals.Tie as tie
 
 abbrev Inv-loop : tie.InvT-loop
-Inv-loop t₀ i₀ i-end t i = (i ≤ i-end) × (length t ≡ i-end)
+Inv-loop out t₀ i₀ i-end t i = (i ≤ i-end) × (length t ≡ i-end)
 
 abbrev μ-loop : tie.MeasureT-loop
-μ-loop t₀ i₀ i-end t i = i-end - i
+μ-loop out t₀ i₀ i-end t i = i-end - i
 
 loop-holds : tie.Need-loop-holds Inv-loop μ-loop
 loop-holds c = search needs

@@ -9,7 +9,7 @@ use Rattle.model.specs.Board.{powered}
 use Rattle.scripts.specs.Scripts.{checked}
 use Rattle.replays.specs.Runs.{running, ordersOf}
 use Rattle.replays.proofs.Output.{within}
-use Rattle.replays.proofs.Ahead.{runIn, Ahead, ahead, ahead-from, less-ahead, pass, at-end}
+use Rattle.replays.proofs.Ahead.{runIn, Ahead, first-ahead, ahead-from, less-ahead, pass, at-end}
 use Rattle.replays.proofs.run.Statement.{statement}
 use Rattle.replays.proofs.run.Tie as tie
 
@@ -26,18 +26,19 @@ Inv-loop left₀ right₀ script out₀ ran₀ place₀ left right out ran place
 abbrev μ-loop : tie.MeasureT-loop
 μ-loop left₀ right₀ script out₀ ran₀ place₀ left right out ran place = length script - place
 
+empty-hand-requires : tie.Need-empty-hand-requires Inv-loop μ-loop
+empty-hand-requires c κs = tt
+
 loop-holds : tie.Need-loop-holds Inv-loop μ-loop
 loop-holds c =
-    let c4 = c .before .before .before .before in
-    let a = c4 .args in (
+    let c5 = c .before .before .before .before .before in
+    let a = c5 .args in (
       omega arith,
       refl,
       refl,
       refl,
-      ahead (a .script .now) (length (a .out .now))
-          (record { board = powered (a .left .now) (a .right .now); output = record { out = a .out .now; at = 0 } })
-          refl
-          (c4 .pre),
+      first-ahead (a .script .now) (a .left .now) (a .right .now) (a .out .now) (c .empty-hand .result)
+          (c .empty-hand .ensures) (c5 .pre),
     )
 
 item-at-requires : tie.Need-item-at-requires Inv-loop μ-loop
@@ -52,7 +53,7 @@ run-item-requires c κs =
     let c4 = c3 .before in
     let c5 = c4 .before in
     let c6 = c5 .before in
-    let a = c6 .before .before .before .before .before .args in
+    let a = c6 .before .before .before .before .before .before .args in
     let loop = c6 .loop in
     let p =
     pass (a .script .now) (loop .place) (length (a .out .now)) (c3 .size .result) (c4 .item-at .result)
@@ -66,14 +67,14 @@ add-place c =
     let c11 = c10 .before in
     let c12 = c11 .before in
     let c13 = c12 .before in
-    let c18 = c13 .before .before .before .before .before in
-    let a = c18 .args in
+    let c19 = c13 .before .before .before .before .before .before in
+    let a = c19 .args in
     let loop = c13 .loop in
     let p =
     pass (a .script .now) (loop .place) (length (a .out .now)) (c10 .size .result) (c11 .item-at .result)
     (runIn (a .script .now) (loop .ran) (loop .left) (loop .right) (loop .out)) _ (c12 .loop-test .taken)
     (c11 .item-at .ensures) (c10 .size .ensures) (loop .inv .4) in
-    fits-le (p .inside) (record { fits = c18 .good .1 .1 .0 .0 })
+    fits-le (p .inside) (record { fits = c19 .good .1 .1 .0 .0 })
 
 loop-less : tie.Need-loop-less Inv-loop μ-loop
 loop-less c =
@@ -81,7 +82,7 @@ loop-less c =
     let c11 = c10 .before in
     let c12 = c11 .before in
     let c13 = c12 .before in
-    let a = c13 .before .before .before .before .before .args in
+    let a = c13 .before .before .before .before .before .before .args in
     let loop = c13 .loop in
     let p =
     pass (a .script .now) (loop .place) (length (a .out .now)) (c10 .size .result) (c11 .item-at .result)
@@ -96,7 +97,7 @@ loop-again c =
     let c11 = c10 .before in
     let c12 = c11 .before in
     let c13 = c12 .before in
-    let a = c13 .before .before .before .before .before .args in
+    let a = c13 .before .before .before .before .before .before .args in
     let loop = c13 .loop in
     let p =
     pass (a .script .now) (loop .place) (length (a .out .now)) (c10 .size .result) (c11 .item-at .result)
@@ -128,6 +129,7 @@ run-spec =
     (tie.spec
     Inv-loop
     μ-loop
+    empty-hand-requires
     loop-holds
     item-at-requires
     size-requires

@@ -5,10 +5,10 @@ use Rattle.views.proofs.characters.Statement.{statement}
 use Rattle.views.proofs.characters.Tie as tie
 
 abbrev Inv-loop : tie.InvT-loop
-Inv-loop row i₀ i-end i = i ≤ i-end
+Inv-loop out₀ row i₀ i-end out i = (i ≤ i-end)
 
 abbrev μ-loop : tie.MeasureT-loop
-μ-loop row i₀ i-end i = i-end - i
+μ-loop out₀ row i₀ i-end out i = i-end - i
 
 loop-holds : tie.Need-loop-holds Inv-loop μ-loop
 loop-holds c = search needs

@@ -6,10 +6,10 @@ use Rattle.views.proofs.rows.Statement.{statement}
 use Rattle.views.proofs.rows.Tie as tie
 
 abbrev Inv-loop : tie.InvT-loop
-Inv-loop image before fold len run₀ at₀ run at = (at ≤ length image) × (length image ≤ 4096)
+Inv-loop out₀ image before fold len run₀ at₀ out run at = (at ≤ length image) × (length image ≤ 4096)
 
 abbrev μ-loop : tie.MeasureT-loop
-μ-loop image before fold len run₀ at₀ run at = length image - at
+μ-loop out₀ image before fold len run₀ at₀ out run at = length image - at
 
 returns : tie.Need-returns Inv-loop μ-loop
 returns c = search needs

@@ -36,6 +36,12 @@ enum-told-5 c = search needs
 one-more-requires-5 : tie.Need-one-more-requires-5
 one-more-requires-5 c κs = search needs
 
+enum-told-6 : tie.Need-enum-told-6
+enum-told-6 c = search needs
+
+one-more-requires-6 : tie.Need-one-more-requires-6
+one-more-requires-6 c κs = search needs
+
 returns : tie.Need-returns
 returns c =
     let t = c .before .before .before .args .self in
@@ -46,13 +52,13 @@ returns-2 : tie.Need-returns-2
 returns-2 c =
     let t = c .before .before .before .args .self in
     counted-as t _ _ _ (ap verdictIn (c .before .enum-told2 .given .1))
-    (λ i. record { old = t .old; new = t .new; another = c .one-more2 .ensures i })
+    (λ i. record { old = t .old; new = c .one-more2 .ensures i; another = t .another })
 
 returns-3 : tie.Need-returns-3
 returns-3 c =
     let t = c .before .before .before .args .self in
     counted-as t _ _ _ (ap verdictIn (c .before .enum-told3 .given .1))
-    (λ i. record { old = c .one-more3 .ensures i; new = t .new; another = t .another })
+    (λ i. record { old = t .old; new = t .new; another = c .one-more3 .ensures i })
 
 returns-4 : tie.Need-returns-4
 returns-4 c =
@@ -65,6 +71,12 @@ returns-5 c =
     let t = c .before .before .before .args .self in
     counted-as t _ _ _ (ap verdictIn (c .before .enum-told5 .given .1))
     (λ i. record { old = c .one-more5 .ensures i; new = t .new; another = t .another })
+
+returns-6 : tie.Need-returns-6
+returns-6 c =
+    let t = c .before .before .before .args .self in
+    counted-as t _ _ _ (ap verdictIn (c .before .enum-told6 .given .1))
+    (λ i. record { old = c .one-more6 .ensures i; new = t .new; another = t .another })
 
 pub with-spec : {M : Type 1} → statement M
 with-spec =
@@ -80,8 +92,11 @@ with-spec =
     one-more-requires-4
     enum-told-5
     one-more-requires-5
+    enum-told-6
+    one-more-requires-6
     returns
     returns-2
     returns-3
     returns-4
-    returns-5)
+    returns-5
+    returns-6)

@@ -1,5 +1,5 @@
 -- Laws of what the benchmark's calls answer.
--- In order: reads; beginnings; line numbers; a step. Assumes nothing.
+-- In order: beginnings; line numbers; a step. Assumes nothing.
 use Prim.Native.Nat.{ℕ, suc, _<_, _≤_}
 use mathlib.Core.Path.{_≡_, refl, sym, ap, _∙_}
 use mathlib.Core.Bool.{Bool, true, false}
@@ -9,11 +9,8 @@ use native.Mathlib.Omega.{arith}
 use lib.Dec.{ltb}
 use lib.ListN.{length, getD, List·getD-eq-default}
 use borrow.Author.Tests.{ltb-true, ltb-false}
-use Rattle.flash.specs.Flash.{Outcome}
 use Rattle.pages.specs.declared.State.{State}
 use Rattle.pages.specs.declared.PageOffset.{PageOffset}
-use Rattle.reads.specs.declared.Reading.{Reading}
-use Rattle.reads.specs.Reads.{numberIn}
 use Rattle.requests.specs.declared.Refusal.{Refusal}
 use Rattle.requests.specs.Numbers.{numberOf}
 use Rattle.walks.specs.declared.Walk.{Walk}
@@ -24,20 +21,8 @@ use Rattle.walks.specs.declared.Progress.the-variants.{Made, Ended, Unfit}
 use Rattle.walks.specs.declared.Stepped as S
 use Rattle.walks.specs.Walks as W
 use Rattle.walks.specs.Walks.{Beginning, beginningIn, saidIn, stepOf}
-use Rattle.bench.specs.declared.Part.{Part}
 use Rattle.bench.specs.declared.Start.{Start}
-use Rattle.bench.specs.Calls.{seen, keptIn, startIn, states, stateFrom, codeOf, saidCode, Stepped, walkOf, stepAs, stepIn}
-
--- a part by its length and first byte
-pub part-seen : (part of : List ℕ) (first : ℕ) → first ≡ getD part 0 0 → part ≡ of
-    → _≡_ {A = Part} (record { len = length part; first = first }) (seen of)
-part-seen part of first e h = (λ i. record { len = length part; first = e i }) ∙ ap seen h
-
--- a copying read whose number was widened
-pub copied : (wide number : ℕ) (reading : Reading) (out : List ℕ) (o : Outcome) → wide ≡ number
-    → number ≡ numberIn reading → _≡_ {A = Outcome} (record { number = numberIn reading; bytes = out }) o
-    → _≡_ {A = Outcome} (record { number = wide; bytes = out }) o
-copied wide number reading out o e f h = (λ i. record { number = (e ∙ f) i; bytes = out }) ∙ h
+use Rattle.bench.specs.Calls.{keptIn, startIn, states, stateFrom, codeOf, saidCode, Stepped, walkOf, stepAs, stepIn}
 
 -- ---- beginnings
 -- the answer of a beginning, once a match has told it

@@ -1,11 +1,11 @@
 -- What the benchmark's calls answer, as numbers: each is read off what the library's own definitions
 -- give.
--- In order: a part; a beginning; a step. Assumes nothing.
+-- In order: a beginning; a step. Assumes nothing.
 use Prim.Native.Nat.{ℕ}
 use mathlib.Core.Bool.{Bool, false}
 use mathlib.Core.List.{List, [], _∷_}
 use mathlib.Core.Option.{Option, none, some}
-use lib.ListN.{length, getD}
+use lib.ListN.{getD}
 use Rattle.pages.specs.declared.State.{State}
 use Rattle.pages.specs.declared.State.the-variants.{S0, S1, S2, S3, S5, S6, S7, S8, S9, S10}
 use Rattle.pages.specs.declared.PageOffset.{PageOffset}
@@ -16,14 +16,9 @@ use Rattle.walks.specs.declared.Progress as P
 use Rattle.walks.specs.declared.Progress.{Progress}
 use Rattle.walks.specs.Walks as W
 use Rattle.walks.specs.Walks.{Beginning, Said, stepOf}
-use Rattle.bench.specs.declared.Part.{Part}
 use Rattle.bench.specs.declared.Start.{Start}
 use Rattle.bench.specs.declared.LineState as L
 use Rattle.bench.specs.declared.LineState.{LineState}
-
--- a part, by its length and first byte
-abbrev pub seen : List ℕ → Part
-seen part = record { len = length part; first = getD part 0 0 }
 
 -- ---- a beginning
 -- what a walk keeps that its caller didn't give

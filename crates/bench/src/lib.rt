@@ -1,9 +1,10 @@
-// What the benchmark calls of the library, one call at a time: the erased test, both reads, the
-// beginning of a save and one step, with numbers and byte buffers at the boundary. bench/plain.h has
-// the same signatures; bench/run builds and measures.
+// What the benchmark calls of the library, one call at a time: the beginning of a save and one step,
+// with numbers and byte buffers at the boundary. bench/plain.h has the same signatures; bench/run
+// builds and measures.
 //
-// Each has one place that calls what it stands for: so the compiler puts it there whole. Walks as a
-// whole stand in a library of their own, bench_walks. What each answer means is in specs/Calls.antt.
+// Each has one place that calls what it stands for: so the compiler puts it there whole. The erased
+// test and both reads stand in a library of their own, bench_reads, and walks as a whole in
+// bench_walks. What each answer means is in specs/Calls.antt.
 use pages::PageOffset;
 use pages::State;
 use plans::Request;
@@ -11,12 +12,8 @@ use walks::Begun;
 use walks::Progress;
 use walks::Walk;
 ghost use mathlib.Core.Path.{_≡_};
-ghost use lib.ListN.{getD};
-ghost use Rattle.flash.specs.Flash.{Outcome, isErased};
-ghost use Rattle.reads.specs.Reads.{readPart, filled};
 ghost use Rattle.walks.specs.Walks.{beginSave};
 ghost use Rattle.bench.specs.Calls.{
-  seen,
   keptIn,
   startIn,
   stateFrom,
@@ -25,13 +22,6 @@ ghost use Rattle.bench.specs.Calls.{
   Stepped,
   stepFrom,
 };
-
-// A part that was read: how many bytes, and the first of them; 0 where there is none.
-#[repr(C)]
-pub struct Part {
-    pub len: usize,
-    pub first: u8,
-}
 
 // A beginning: the number, 0 where the walk is begun, and the line and erased-or-not that it then
 // keeps. What else it keeps the caller gave.
@@ -42,59 +32,6 @@ pub struct Start {
     pub erased: bool,
 }
 
-fn wide(x: u8) -> u32
-    ensures { λ r. ⌜ r ≡ x ⌝ }
-{
-    x as u32
-}
-
-// The byte at the start, or 0.
-fn first_of(part: &[u8]) -> u8
-    ensures { λ r. ⌜ r ≡ getD (now (part .entry)) 0 0 ⌝ }
-{
-    if 0 < part.len() { part[0] } else { 0 }
-}
-
-#[no_mangle]
-pub extern "C" fn bench_erased(page: &[u8]) -> bool
-    ensures { λ r. ⌜ r ≡ isErased (now (page .entry)) ⌝ }
-{
-    flash::erased(page)
-}
-
-#[no_mangle]
-pub extern "C" fn bench_part<'a>(left: &'a [u8], right: &'a [u8], offset: u32, len: u32) -> Part
-    ensures { λ r.
-        ⌜ r ≡ seen (readPart (now (left .entry)) (now (right .entry)) (record { 0 = offset }) len) ⌝ }
-{
-    let part = reads::read(left, right, PageOffset(offset), len);
-    let first = first_of(part);
-    Part {
-        len: part.len(),
-        first: first,
-    }
-}
-
-#[no_mangle]
-pub extern "C" fn bench_copy<'a>(
-    left: &'a [u8],
-    right: &'a [u8],
-    offset: u32,
-    out: &mut [u8],
-) -> u32
-    ensures { λ r.
-        ⌜ _≡_ {A = Outcome} (record { number = r; bytes = now (out .exit) })
-        (filled
-        (now (left .entry))
-        (now (right .entry))
-        (record { 0 = offset })
-        (now (out .entry))) ⌝ }
-{
-    let reading = reads::read_into(left, right, PageOffset(offset), out);
-    wide(reading.number())
-}
-
-// ---- beginning
 fn kept_in(walk: Walk) -> Start
     ensures { λ r. ⌜ r ≡ keptIn walk ⌝ }
 {

@@ -76,7 +76,7 @@ enum Question {
 fn ask_pages(left: &mut [u8], right: &mut [u8], data: &[u8], question: Question) -> u32 {
     match question {
         Question::Line => {
-            let state = pages::status_of(left, right).state;
+            let state = table::status_of(left, right).state;
             state.line() as u32
         }
         Question::Save => walk_save(left, right, data),

@@ -71,7 +71,7 @@ pub fn start_of(request: Request, left: &[u8], right: &[u8]) -> Start
     ensures { λ r.
         ⌜ beginsIn r ≡ beginsIn (startOf request (now (left .entry)) (now (right .entry))) ⌝ }
 {
-    let status = pages::status_of(left, right);
+    let status = table::status_of(left, right);
     let state = status.state;
     let live = status.live;
     let erased = find_erased(request, state, live, left, right);
@@ -140,7 +140,7 @@ fn is_none(left: &[u8], right: &[u8]) -> bool
     if right[3] != 255 {
         return true;
     }
-    let state = pages::status_of(left, right).state;
+    let state = table::status_of(left, right).state;
     state.line() == 0
 }
 

@@ -59,7 +59,7 @@ fn locate(left: &[u8], right: &[u8], offset: PageOffset, len: usize) -> Found
     match requests::check_request(left.len(), right.len(), offset, len) {
         Check::Refused(why) => Found::Refused(why),
         Check::Legal => {
-            let status = pages::status_of(left, right);
+            let status = table::status_of(left, right);
             let live = status.live;
             match live {
                 Live::Nowhere => Found::NoLive,

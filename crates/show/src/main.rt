@@ -56,7 +56,7 @@ fn held_by(page: &[u8]) -> usize {
 
 // The line of two pages.
 fn line_of(left: &[u8], right: &[u8]) -> u8 {
-    let status = pages::status_of(left, right);
+    let status = table::status_of(left, right);
     let state = status.state;
     state.line()
 }
@@ -291,7 +291,7 @@ fn print_words(out: &mut [u8; 65536], source: Source, left: &[u8], right: &[u8])
 }
 
 fn print_pages(out: &mut [u8; 65536], source: Source, walk: Walk, left: &[u8], right: &[u8]) {
-    let live = pages::status_of(left, right).live;
+    let live = table::status_of(left, right).live;
     print_words(out, source, left, right);
     print_line(out, walk, live, left, right);
     print_notes(out, notes_of(source, left, right));
@@ -426,7 +426,7 @@ fn json_dumps(out: &mut [u8; 65536], source: Source, page: u32, left: &[u8], rig
 }
 
 fn json_line(out: &mut [u8; 65536], walk: Walk, left: &[u8], right: &[u8]) {
-    let live = pages::status_of(left, right).live;
+    let live = table::status_of(left, right).live;
     let start = walk.start;
     prints::filled(out, b", \"line\": #, \"live\": ", &[start.line() as u64]);
     json_live(out, live, left, right);

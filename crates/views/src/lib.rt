@@ -38,7 +38,7 @@ pub fn live(out: &mut [u8; 65536], l: Live) {
 
 // Prints the line of two pages and which of them is live, with no line end.
 pub fn line(out: &mut [u8; 65536], left: &[u8], right: &[u8]) {
-    let status = pages::status_of(left, right);
+    let status = table::status_of(left, right);
     let state = status.state;
     let on = status.live;
     prints::filled(out, b"line #, ", &[state.line() as u64]);

@@ -1,9 +1,9 @@
--- `pages::status_of` meets its contract: it looks up the words of the two pages. Assumes nothing.
+-- `table::status_of` meets its contract: it looks up the words of the two pages. Assumes nothing.
 use mathlib.Core.Path.{ap, _∙_}
 use Rattle.pages.specs.Pages.{table, look, statusOf, standing}
 use borrow.Author.Needs.{needs}
-use Rattle.pages.proofs.status_of.Statement.{statement}
-use Rattle.pages.proofs.status_of.Tie as tie
+use Rattle.table.proofs.status_of.Statement.{statement}
+use Rattle.table.proofs.status_of.Tie as tie
 
 word-requires : tie.Need-word-requires
 word-requires c κs = search needs

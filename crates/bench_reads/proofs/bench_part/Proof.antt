@@ -1,8 +1,8 @@
--- `bench::bench_part` meets its contract: the part that was read, by its length and first byte. Assumes nothing.
-use Rattle.bench.proofs.Laws.{part-seen}
+-- `bench_reads::bench_part` meets its contract: the part that was read, by its length and first byte. Assumes nothing.
+use Rattle.bench_reads.proofs.Laws.{part-seen}
 use borrow.Author.Needs.{needs}
-use Rattle.bench.proofs.bench_part.Statement.{statement}
-use Rattle.bench.proofs.bench_part.Tie as tie
+use Rattle.bench_reads.proofs.bench_part.Statement.{statement}
+use Rattle.bench_reads.proofs.bench_part.Tie as tie
 
 read-requires : tie.Need-read-requires
 read-requires c κs = search needs

@@ -1,12 +1,12 @@
--- `pages::look_up` meets its contract: each row that doesn't hold the words is passed over, so a look-up in the table
+-- `table::look_up` meets its contract: each row that doesn't hold the words is passed over, so a look-up in the table
 -- is one in the rows that are left (`left-1` to `left-9`). Assumes nothing.
 use mathlib.Core.Path.{_≡_, sym, _∙_}
 use lib.ListN.{drop}
 use borrow.Author.Needs.{needs}
 use Rattle.pages.specs.Pages.{table, look}
 use Rattle.pages.proofs.Laws.{passed, held}
-use Rattle.pages.proofs.look_up.Statement.{statement}
-use Rattle.pages.proofs.look_up.Tie as tie
+use Rattle.table.proofs.look_up.Statement.{statement}
+use Rattle.table.proofs.look_up.Tie as tie
 
 left-1 : (c : tie.Else1) → let a = c .before .before .before .args in
     look table (a .left) (a .right) ≡ look (drop 1 table) (a .left) (a .right)

@@ -1,8 +1,8 @@
--- `bench::bench_copy` meets its contract: it is the copying read, its number widened. Assumes nothing.
-use Rattle.bench.proofs.Laws.{copied}
+-- `bench_reads::bench_copy` meets its contract: it is the copying read, its number widened. Assumes nothing.
+use Rattle.bench_reads.proofs.Laws.{copied}
 use borrow.Author.Needs.{needs}
-use Rattle.bench.proofs.bench_copy.Statement.{statement}
-use Rattle.bench.proofs.bench_copy.Tie as tie
+use Rattle.bench_reads.proofs.bench_copy.Statement.{statement}
+use Rattle.bench_reads.proofs.bench_copy.Tie as tie
 
 read-into-requires : tie.Need-read-into-requires
 read-into-requires c κs = search needs

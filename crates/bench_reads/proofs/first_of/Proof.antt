@@ -1,9 +1,9 @@
--- `bench::first_of` meets its contract: of an empty part `getD` is its default. Assumes nothing.
+-- `bench_reads::first_of` meets its contract: of an empty part `getD` is its default. Assumes nothing.
 use mathlib.Core.Path.{sym}
 use lib.ListN.{List·getD-eq-default}
 use borrow.Author.Needs.{needs}
-use Rattle.bench.proofs.first_of.Statement.{statement}
-use Rattle.bench.proofs.first_of.Tie as tie
+use Rattle.bench_reads.proofs.first_of.Statement.{statement}
+use Rattle.bench_reads.proofs.first_of.Tie as tie
 
 shared-slice-read-result : tie.Need-shared-slice-read-result
 shared-slice-read-result c = search needs

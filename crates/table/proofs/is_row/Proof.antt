@@ -1,12 +1,12 @@
--- `pages::is_row` meets its contract: two words as one number tell both. Assumes nothing.
+-- `table::is_row` meets its contract: two words as one number tell both. Assumes nothing.
 use mathlib.Core.Path.{ap₂, _∙_}
 use Prim.Native.Nat.{ℕ}
 use native.Mathlib.Omega.{arith}
 use lib.Dec.{eqb}
 use borrow.Author.Needs.{needs}
 use Rattle.pages.proofs.Laws.{both-words}
-use Rattle.pages.proofs.is_row.Statement.{statement}
-use Rattle.pages.proofs.is_row.Tie as tie
+use Rattle.table.proofs.is_row.Statement.{statement}
+use Rattle.table.proofs.is_row.Tie as tie
 
 joined-words-requires : tie.Need-joined-words-requires
 joined-words-requires c κs = search needs

@@ -223,6 +223,7 @@ pub fn show<'a>(out: &mut [u8; 65536], left: &'a [u8], right: &'a [u8], before: 
     show_image(out, verdicts::image(left, right), before);
 }
 
+// ---- a run of image cells
 fn print_side(out: &mut [u8; 65536], spot: Spot) {
     match spot {
         Spot::Fixed(_) => {}
@@ -263,7 +264,6 @@ fn print_run(out: &mut [u8; 65536], walk: Walk, count: u32) {
     );
 }
 
-// ---- a run of image cells
 fn is_cell(walk: Walk) -> bool {
     match views::spot(walk, walk.place) {
         Spot::Fixed(_) => false,

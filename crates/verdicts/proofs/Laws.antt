@@ -1,6 +1,6 @@
 -- Laws of verdicts.
 -- In order: what a read shows; bytes of the old and the new image; the new image, byte after byte, and that it is the old
--- one with the data laid in; the verdict; counts.
+-- one with the data laid in; the verdict; counts, and what is counted for what a read shows.
 -- Assumes nothing.
 use Prim.Native.Nat.{ℕ, zero, suc, _+_, _-_, _*_, _<_, _≤_}
 use mathlib.Core.Path.{_≡_, refl, sym, ap, ap₂, _∙_}
@@ -19,6 +19,7 @@ use Rattle.pages.specs.Offsets.{toPage}
 use Rattle.pages.specs.Pages.{statusOf}
 use Rattle.pages.proofs.Laws.{page-offset}
 use Rattle.plans.specs.declared.Request.{Request}
+use Rattle.plans.specs.declared.Request.the-variants.{Save, Format}
 use Rattle.plans.specs.Counts.{cellCount}
 use Rattle.requests.proofs.Laws.{legal}
 use Rattle.reads.specs.Reads.{liveNumber, livePage, readNumber, readPart}
@@ -40,6 +41,7 @@ use Rattle.verdicts.specs.Verdicts.{
   lostShows,
   imageVerdict,
   verdictOf,
+  oneMore,
   counted,
 }
 
@@ -210,3 +212,39 @@ never-there q (x ∷ xs) old o d h k = absurd (omega (arith, h))
 -- ---- counts
 pub counted-as : (t s : Tally) (v w : Shows) → v ≡ w → s ≡ counted t w → s ≡ counted t v
 counted-as t s v w e h = h ∙ ap (counted t) (sym e)
+
+counted-image : (t : Tally) (is-old is-asked : Bool)
+    → counted t (imageVerdict is-old is-asked)
+    ≡ cond is-old
+    (record { old = oneMore (t .old); new = t .new; another = t .another })
+    (cond is-asked
+    (record { old = t .old; new = oneMore (t .new); another = t .another })
+    (record { old = t .old; new = t .new; another = oneMore (t .another) }))
+counted-image t true true = refl
+counted-image t true false = refl
+counted-image t false true = refl
+counted-image t false false = refl
+
+-- whether what a read shows is what a request is to leave: of a save an image, and of a format none
+abbrev pub leaves : Request → List ℕ → List ℕ → PageOffset → List ℕ → Bool
+leaves Save [] before o d = false
+leaves Save (x ∷ xs) before o d = isSaved (x ∷ xs) before o d
+leaves Format [] before o d = true
+leaves Format (x ∷ xs) before o d = false
+
+-- from what a read shows to what is counted: old where it is what it was, else new where it is what was
+-- asked for, and else, and only then, another
+pub counts-exactly : (t : Tally) (q : Request) (image before : List ℕ) (o : PageOffset) (d : List ℕ)
+    → counted t (verdictOf q image before o d)
+    ≡ cond (same image before)
+    (record { old = oneMore (t .old); new = t .new; another = t .another })
+    (cond (leaves q image before o d)
+    (record { old = t .old; new = oneMore (t .new); another = t .another })
+    (record { old = t .old; new = t .new; another = oneMore (t .another) }))
+unfolding verdictOf same
+counts-exactly t q [] [] o d = refl
+counts-exactly t Save [] (y ∷ ys) o d = refl
+counts-exactly t Format [] (y ∷ ys) o d = refl
+counts-exactly t Save (x ∷ xs) before o d =
+    counted-image t (same (x ∷ xs) before) (isSaved (x ∷ xs) before o d)
+counts-exactly t Format (x ∷ xs) before o d = counted-image t (same (x ∷ xs) before) false

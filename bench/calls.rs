@@ -188,6 +188,34 @@ pub fn libraries() -> [Library; 3] {
     ])
 }
 
+/// The erased test alone, of one version.
+#[derive(Clone, Copy)]
+pub struct ErasedTest {
+    pub name: &'static str,
+    call: ErasedFn,
+}
+
+impl ErasedTest {
+    pub fn answer(&self, page: &[u8]) -> bool {
+        // SAFETY: the pointer and the length are those of a slice.
+        unsafe { (self.call)(page.as_ptr(), page.len()) }
+    }
+}
+
+/// The library's erased test; plain Rust byte by byte, as all of plain.rs has it; plain C; and plain Rust
+/// eight bytes at a time, three ways.
+pub fn erased_tests() -> [ErasedTest; 6] {
+    let test = |name, call: ErasedFn| ErasedTest { name, call };
+    black_box([
+        test("library", bench_erased),
+        test("plain Rust, byte by byte", plain::rust_erased),
+        test("plain C", c_erased),
+        test("plain Rust, eight by eight", plain::rust_erased_eights),
+        test("plain Rust, all eights joined", plain::rust_erased_joined),
+        test("plain Rust, blocks of eights", plain::rust_erased_blocks),
+    ])
+}
+
 /// The replay that hosts link.
 pub fn replay() -> ReplayFn {
     black_box(fretgalaxy_replay)

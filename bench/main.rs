@@ -3,7 +3,8 @@
 //! All three are called through the same signatures, by pointers that the compiler can't see through,
 //! on the same buffers. First they are held to the same answers and the same page bytes. Then each row
 //! is measured in rounds, the three one after another in every round, and the least time of all
-//! rounds counts. Every buffer has been used before: all times are with warm caches.
+//! rounds counts. Every buffer has been used before: all times are with warm caches. The erased test has
+//! a table of its own, with plain Rust in more than one way.
 //!
 //! Its arguments: the size of the machine code of the exported library, in bytes; then, if wanted,
 //! `quick` for fewer rounds, which measures badly and judges no bar; `bar N` for as few, judged by N in
@@ -11,6 +12,7 @@
 //! differ or a bar is missed.
 
 mod calls;
+mod erased;
 mod plain;
 mod rows;
 mod same;
@@ -27,8 +29,9 @@ fn main() {
     let quick = has("quick");
     let rounds = if quick || has("bar") { 5 } else { 1000 };
     let libraries = calls::libraries();
+    let tests = calls::erased_tests();
 
-    match same::compare(&libraries) {
+    match same::compare(&libraries).and_then(|count| Ok(count + erased::compare(&tests)?)) {
         Ok(count) => println!("benchmark: the three answer alike, pages too: {count} comparisons"),
         Err(difference) => {
             println!("benchmark: the three DIFFER: {difference}");
@@ -47,6 +50,12 @@ fn main() {
     for mut row in rows::rows(&PAGES) {
         row.bar = row.bar.map(|its_own| bar.unwrap_or(its_own));
         missed += print(&row, &measured(&row, &libraries, rounds), !quick);
+    }
+    println!();
+    erased::print_heading();
+    for mut row in erased::rows() {
+        row.bars = row.bars.map(|its_own| its_own.map(|its_own| bar.unwrap_or(its_own)));
+        missed += erased::print(&row, &tests, rounds, !quick);
     }
     println!();
     print_sizes(arguments.first().and_then(|word| word.parse().ok()));

@@ -394,6 +394,39 @@ pub unsafe extern "C" fn rust_erased(page: *const u8, p: usize) -> bool {
     is_erased(unsafe { lent(page, p) })
 }
 
+// The erased test eight bytes at a time, in three ways, of which the quickest depends on the page.
+
+fn eight(bytes: &[u8]) -> u64 {
+    u64::from_le_bytes(bytes.try_into().unwrap())
+}
+
+/// All eights of a slice joined by AND.
+fn joined(bytes: &[u8]) -> u64 {
+    bytes.chunks_exact(8).fold(u64::MAX, |all, next| all & eight(next))
+}
+
+fn is_erased_by_eights(page: &[u8]) -> bool {
+    let mut eights = page.chunks_exact(8);
+    eights.all(|next| eight(next) == u64::MAX) && is_erased(eights.remainder())
+}
+
+/// With a way out after each eight.
+pub unsafe extern "C" fn rust_erased_eights(page: *const u8, p: usize) -> bool {
+    is_erased_by_eights(unsafe { lent(page, p) })
+}
+
+/// With no way out.
+pub unsafe extern "C" fn rust_erased_joined(page: *const u8, p: usize) -> bool {
+    let page = unsafe { lent(page, p) };
+    joined(page) == u64::MAX && is_erased(page.chunks_exact(8).remainder())
+}
+
+/// With a way out after each 16 of them.
+pub unsafe extern "C" fn rust_erased_blocks(page: *const u8, p: usize) -> bool {
+    let mut blocks = unsafe { lent(page, p) }.chunks_exact(128);
+    blocks.all(|block| joined(block) == u64::MAX) && is_erased_by_eights(blocks.remainder())
+}
+
 pub unsafe extern "C" fn rust_part(
     left: *const u8, p: usize, right: *const u8, q: usize, offset: u32, length: u32,
 ) -> Part {

@@ -7,7 +7,7 @@ use std::ops::{Deref, DerefMut};
 use std::time::Instant;
 
 /// How long a run lasts at least: enough that reading the clock doesn't count.
-const NANOSECONDS_A_RUN: u128 = 30_000;
+pub const NANOSECONDS_A_RUN: u128 = 30_000;
 
 /// The settings of the drive: what the whole save saves.
 const DATA: [u8; 42] = [0x5A; 42];
@@ -25,7 +25,6 @@ enum Job {
     Step,
     Save,
     Format,
-    Erased,
     PageCopy,
     PageSet,
     BothSet,
@@ -84,7 +83,7 @@ fn rows_at(p: usize) -> Vec<Row> {
         row("begin at line 0, both erased", Job::Begin, pages(ERASED, ERASED), None),
         row("begin at line 0, not erased", Job::Begin, pages(ACTIVE, ACTIVE), None),
         row("begin at line 1, RIGHT erased", Job::Begin, line_1, None),
-        row("begin at line 1, RIGHT used from byte 4", Job::Begin, used(line_1, 4), None),
+        row("begin at line 1, RIGHT used from byte 4", Job::Begin, used(line_1, 4), Some(1.0)),
         row("begin at line 1, RIGHT used in its last byte", Job::Begin, used(line_1, p - 1), None),
         row("begin at line 3", Job::Begin, line_3, Some(1.0)),
         row("begin at line 7", Job::Begin, line_7, Some(1.0)),
@@ -92,9 +91,6 @@ fn rows_at(p: usize) -> Vec<Row> {
         row("a whole save of 42 bytes, lines 3 and 7", Job::Save, line_3, Some(0.5)),
         row("a whole format, line 3", Job::Format, line_3, Some(0.5)),
         row("a whole format, line 0", Job::Format, pages(ACTIVE, ACTIVE), Some(0.5)),
-        row("erased test, erased page", Job::Erased, pages(ERASED, ERASED), None),
-        row("erased test, last byte used", Job::Erased, used(pages(ERASED, ERASED), p - 1), None),
-        row("erased test, first byte used", Job::Erased, line_3, None),
         row("memcpy of a page", Job::PageCopy, line_3, None),
         row("memset of a page", Job::PageSet, line_3, None),
         row("memset of both pages, as a format has to", Job::BothSet, line_3, None),
@@ -103,7 +99,7 @@ fn rows_at(p: usize) -> Vec<Row> {
 
 /// Bytes that begin at a given place of a memory page: the same for all three, so that none meets
 /// cache lines otherwise than the others.
-struct Placed {
+pub struct Placed {
     bytes: Vec<u8>,
     start: usize,
 }
@@ -111,7 +107,7 @@ struct Placed {
 const MEMORY_PAGE: usize = 4096;
 
 impl Placed {
-    fn new(content: &[u8], place: usize) -> Placed {
+    pub fn new(content: &[u8], place: usize) -> Placed {
         let mut bytes = vec![0; content.len() + 2 * MEMORY_PAGE];
         let start = MEMORY_PAGE - bytes.as_ptr() as usize % MEMORY_PAGE + place;
         bytes[start..start + content.len()].copy_from_slice(content);
@@ -185,7 +181,6 @@ impl Timed {
             Job::Part => self.repeat(|t| t.library.part(&t.left, &t.right, OFFSET, 42)),
             Job::Copy(n) => self.repeat(|t| t.library.copy(&t.left, &t.right, 4, &mut t.out[..n])),
             Job::Begin => self.repeat(|t| t.library.begin(&t.left, &t.right, OFFSET, &DATA)),
-            Job::Erased => self.repeat(|t| t.library.erased(&t.right)),
             Job::Save => {
                 self.repeat(|t| t.library.save(&mut t.left, &mut t.right, OFFSET, &DATA))
             }

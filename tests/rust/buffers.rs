@@ -157,6 +157,61 @@ impl Buffer {
     }
 }
 
+/// Bytes that the library may only read, close to either end of two mapped pages.
+pub struct Window {
+    region: Region,
+    offset: usize,
+    length: usize,
+}
+
+impl Window {
+    pub fn new() -> Window {
+        Window { region: Region::read_only(2 * PAGE), offset: 0, length: 0 }
+    }
+
+    /// Makes the window so many bytes of FF with so many bytes between it and the edge, and sets every
+    /// byte around it.
+    pub fn lay(&mut self, length: usize, edge: Edge, gap: usize, around: u8) {
+        let capacity = self.region.capacity;
+        assert!(length + gap <= capacity, "{length} bytes and {gap} are too many for a window");
+        self.length = length;
+        self.offset = match edge {
+            Edge::Behind => capacity - gap - length,
+            Edge::Before => gap,
+        };
+        // SAFETY: offset + length is at most the capacity, and nothing borrows the region now.
+        unsafe {
+            self.region.own.write_bytes(around, capacity);
+            self.region.own.add(self.offset).write_bytes(0xFF, length);
+        }
+    }
+
+    /// Sets one byte of it.
+    pub fn set(&mut self, at: usize, byte: u8) {
+        assert!(at < self.length);
+        // SAFETY: the place is inside the window, and nothing borrows the region now.
+        unsafe { self.region.own.add(self.offset + at).write(byte) }
+    }
+
+    pub fn bytes(&self) -> &[u8] {
+        // SAFETY: the range is inside the region, and only `lay` and `set` write to it.
+        unsafe { std::slice::from_raw_parts(self.region.own.add(self.offset), self.length) }
+    }
+
+    /// The byte behind it, if one is mapped.
+    pub fn after(&self) -> Option<u8> {
+        let behind = self.offset + self.length;
+        // SAFETY: the place is inside the region.
+        (behind < self.region.capacity).then(|| unsafe { *self.region.own.add(behind) })
+    }
+
+    /// What is lent to the library, for reading only.
+    pub fn lend(&self) -> (*const u8, usize) {
+        // SAFETY: the offset is at most the capacity.
+        (unsafe { self.region.lent.add(self.offset) }, self.length)
+    }
+}
+
 /// A buffer of more than 2^32 bytes, of which only the first page takes memory when it is written.
 pub struct Huge {
     start: *mut u8,

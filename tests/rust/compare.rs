@@ -4,7 +4,7 @@
 use crate::buffers::{Buffer, Edge, Huge, EDGES};
 use crate::model::{word, Pages, Rules};
 use crate::script::{self, hex, Wanted};
-use crate::stop;
+use crate::stop::{self, Told};
 
 /// `struct fretgalaxy_report` of include/fretgalaxy.h.
 #[repr(C)]
@@ -65,12 +65,14 @@ pub struct Case<'a> {
     pub out: usize,
 }
 
-impl Case<'_> {
+impl Told for Case<'_> {
     /// The case by its name and its material.
-    pub fn words(&self) -> String {
+    fn words(&self) -> String {
         format!("{}; {}", (self.name)(), self.material())
     }
+}
 
+impl Case<'_> {
     fn material(&self) -> String {
         format!(
             "pages {}, {}; output of {} bytes; script: {}",

@@ -117,7 +117,7 @@ fn line_of(checker: &mut Checker, words: (u32, u32)) -> Outcome {
 /// One bit of one byte that isn't FF, at every place of either image, where erased-or-not counts.
 fn erased_or_not() -> Group {
     let mut jobs: Vec<Job> = Vec::new();
-    for p in [8, 10, 12, 64, 4096] {
+    for p in (8..=80).step_by(2).chain([4094, 4096]) {
         for words in [(0xFFFFFFFF, 0xFFFFFFFF), (0xFFFF0000, 0xFFFFFFFF), (0xFFFFFFFF, 0xFFFF0000)]
         {
             jobs.push(Box::new(move |checker| {

@@ -8,6 +8,7 @@ mod cases;
 mod compare;
 mod cuts;
 mod directed;
+mod erased;
 mod faults;
 mod model;
 mod random;
@@ -80,7 +81,7 @@ fn run(options: &Options) -> Result<u64, String> {
     guards_work()?;
     stop::tell_signals();
     let mut directed = groups();
-    let mut comparisons = 0;
+    let mut comparisons = erased::run()?;
     for group in &directed {
         comparisons += run_group(group)?.comparisons;
     }

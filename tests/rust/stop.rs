@@ -1,9 +1,7 @@
-//! What the host tells when a replay is stopped by a signal, as by a byte out of range.
+//! What the host tells when a call of the library is stopped by a signal, as by a byte out of range.
 
 use std::cell::Cell;
 use std::ffi::c_int;
-
-use crate::compare::Case;
 
 /// SIGILL, SIGABRT, SIGBUS, SIGFPE and SIGSEGV.
 const SIGNALS: [c_int; 5] = [4, 6, 7, 8, 11];
@@ -13,25 +11,31 @@ extern "C" {
     fn _exit(status: c_int) -> !;
 }
 
-thread_local! {
-    /// The case that this thread is replaying.
-    static CASE: Cell<Option<*const Case<'static>>> = const { Cell::new(None) };
+/// What a thread is calling, in words that are made only when they are told.
+pub trait Told {
+    fn words(&self) -> String;
 }
 
-/// Makes a replay of a case; if it is stopped by a signal, the case is told.
-pub fn during<T>(case: &Case, replay: impl FnOnce() -> T) -> T {
-    CASE.set(Some(std::ptr::from_ref(case).cast()));
-    let result = replay();
-    CASE.set(None);
+thread_local! {
+    /// What this thread is calling.
+    static CALLED: Cell<Option<*const dyn Told>> = const { Cell::new(None) };
+}
+
+/// Makes a call; if it is stopped by a signal, what was called is told.
+pub fn during<T>(called: &dyn Told, call: impl FnOnce() -> T) -> T {
+    // SAFETY: only the lifetime is dropped, and the pointer is gone before it ends.
+    CALLED.set(Some(unsafe { std::mem::transmute::<&dyn Told, &'static dyn Told>(called) }));
+    let result = call();
+    CALLED.set(None);
     result
 }
 
 extern "C" fn stopped(number: c_int) {
-    let text = match CASE.get() {
-        // SAFETY: this thread is inside `during`, which borrows the case. The library holds no lock
-        // and allocates nothing, so that the text can be made here.
-        Some(case) => unsafe { &*case }.words(),
-        None => "not in a replay".to_string(),
+    let text = match CALLED.get() {
+        // SAFETY: this thread is inside `during`, which borrows what is called. The library holds no
+        // lock and allocates nothing, so that the text can be made here.
+        Some(called) => unsafe { &*called }.words(),
+        None => "not in a call of the library".to_string(),
     };
     println!("rust host: WRONG: stopped by signal {number}: {text}");
     // SAFETY: it only ends the process.

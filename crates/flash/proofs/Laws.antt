@@ -1,14 +1,15 @@
 -- Laws of cells, programming and erasing: callers use these and never the text of the definitions.
 -- In order: answers and Booleans; cells; programming; erasing; the erased test.
 -- Not here: laws of lists (lib.Seq, lib.ListN) and of bits (lib.Bits). Assumes nothing.
-use Prim.Native.Nat.{ℕ, zero, suc, _+_, _%_, _/_, _<_, _≤_}
+use Prim.Native.Nat.{ℕ, zero, suc, _+_, _*_, _%_, _/_, _<_, _≤_}
 use mathlib.Core.Path.{_≡_, refl, sym, ap, ap₂, _∙_}
-use mathlib.Core.Bool.{Bool, true, false, cond, _&&_}
+use mathlib.Core.Bool.{Bool, true, false, cond, not, _&&_}
 use mathlib.Core.List.{List, [], _∷_, _++_, append-nil}
 use mathlib.Core.Option.{none, some}
 use native.Mathlib.Numerals.{add-one}
+use native.Mathlib.Nat.{add-zero}
 use native.Mathlib.Omega.{arith}
-use lib.Bits.{bitAnd, and-le-l, and-le-r}
+use lib.Bits.{bitAnd, and-self, and-le-l, and-le-r}
 use lib.Dec.{eqb, ltb}
 use lib.ListN.{length, getD, set, drop, replicate, length-set, length-replicate, drop-of-length-le}
 use lib.Seq.{drop-cons, drop-length, getD-set-same, getD-set-other}
@@ -188,22 +189,101 @@ filled l₀ l i h k e =
     let n : i ≡ length l₀ = omega arith in
     e ∙ simp (n, drop-length, append-nil)
 
--- the erased test: a byte is FF exactly if it keeps every bit of FF
-full-and : (a b : ℕ) → a ≤ 255 → b ≤ 255 → eqb (bitAnd a b) 255 ≡ (eqb a 255 && eqb b 255)
-full-and a b ha hb = go (eqb a 255) (eqb b 255) refl refl
+-- the erased test: AND leaves every bit set exactly if both numbers have every bit set
+full-and : (full a b : ℕ) → a ≤ full → b ≤ full → eqb (bitAnd a b) full ≡ (eqb a full && eqb b full)
+full-and full a b ha hb = go (eqb a full) (eqb b full) refl refl
   where
-    go : (s t : Bool) → eqb a 255 ≡ s → eqb b 255 ≡ t → eqb (bitAnd a b) 255 ≡ (s && t)
-    go true true p q = simp (eqb-true a 255 p, eqb-true b 255 q)
-    go true false p q = ne-eqb (bitAnd a b) 255 (λ e. eqb-false b 255 q (omega (arith, and-le-r a b)))
-    go false t p q = ne-eqb (bitAnd a b) 255 (λ e. eqb-false a 255 p (omega (arith, and-le-l a b)))
+    go : (s t : Bool) → eqb a full ≡ s → eqb b full ≡ t → eqb (bitAnd a b) full ≡ (s && t)
+    go true true p q =
+        eq-eqb (bitAnd a b) full (ap₂ bitAnd (eqb-true a full p) (eqb-true b full q) ∙ and-self full)
+    go true false p q = ne-eqb (bitAnd a b) full (λ e. eqb-false b full q (omega (arith, and-le-r a b)))
+    go false t p q = ne-eqb (bitAnd a b) full (λ e. eqb-false a full p (omega (arith, and-le-l a b)))
 
--- one more byte folded in says of the whole what the bytes before it and those after it say
-pub fold-step : (l : List ℕ) (i all : ℕ) → i < length l → all ≤ 255 → getD l i 0 ≤ 255
-    → isErased l ≡ (eqb all 255 && isErased (drop i l))
-    → isErased l ≡ (eqb (bitAnd all (getD l i 0)) 255 && isErased (drop (i + 1) l))
+-- a byte put below a number: all as great as can be exactly if both are
+full-digit : (b n full : ℕ) → b ≤ 255 → eqb (b + n * 256) (255 + full * 256) ≡ (eqb b 255 && eqb n full)
+full-digit b n full h = go (eqb b 255) (eqb n full) refl refl
+  where
+    go : (s t : Bool) → eqb b 255 ≡ s → eqb n full ≡ t → eqb (b + n * 256) (255 + full * 256) ≡ (s && t)
+    go true true p q =
+        eq-eqb (b + n * 256) (255 + full * 256) (omega (arith, eqb-true b 255 p, eqb-true n full q))
+    go true false p q = ne-eqb (b + n * 256) (255 + full * 256) (λ e. eqb-false n full q (omega arith))
+    go false t p q = ne-eqb (b + n * 256) (255 + full * 256) (λ e. eqb-false b 255 p (omega arith))
+
+-- the bytes from a place on: the first of them, and the others
+pub byte-next : (l : List ℕ) (i : ℕ) → i < length l
+    → isErased (drop i l) ≡ (eqb (getD l i 0) 255 && isErased (drop (i + 1) l))
 unfolding isErased
-fold-step l i all h ha hb e =
-    e ∙ rw (drop-cons l i 0 h, add-one, full-and all (getD l i 0) ha hb, and-assoc)
+byte-next l i h = rw (drop-cons l i 0 h, add-one)
+
+-- n bytes from a place on as one number, the first lowest; and the number of n bytes of FF
+abbrev numberFrom : List ℕ → ℕ → ℕ → ℕ → ℕ
+numberFrom l i k zero = 0
+numberFrom l i k (suc n) = getD l (i + k) 0 + numberFrom l i (suc k) n * 256
+
+abbrev fullOf : ℕ → ℕ
+fullOf zero = 0
+fullOf (suc n) = 255 + fullOf n * 256
+
+-- the same for n bytes: they are FF exactly if their number is
+bytes-next : (l : List ℕ) (i k n : ℕ) → ((j : ℕ) → getD l j 0 ≤ 255) → i + k + n ≤ length l
+    → isErased (drop (i + k) l) ≡ (eqb (numberFrom l i k n) (fullOf n) && isErased (drop (i + k + n) l))
+bytes-next l i k zero b h = ap (λ (j : ℕ). isErased (drop j l)) (sym (add-zero (i + k)))
+bytes-next l i k (suc n) b h =
+    let x = getD l (i + k) 0 in
+    let m = numberFrom l i (suc k) n in
+    let full = fullOf n in
+    let here : i + k + 1 ≡ i + suc k = omega arith in
+    let end : i + suc k + n ≡ i + k + suc n = omega arith in
+    byte-next l (i + k) (omega arith)
+    ∙ ap (λ (j : ℕ). eqb x 255 && isErased (drop j l)) here
+    ∙ ap (λ (t : Bool). eqb x 255 && t) (bytes-next l i (suc k) n b (omega arith))
+    ∙ ap (λ (j : ℕ). eqb x 255 && (eqb m full && isErased (drop j l))) end
+    ∙ sym (and-assoc (eqb x 255) (eqb m full) (isErased (drop (i + k + suc n) l)))
+    ∙ ap (λ (t : Bool). t && isErased (drop (i + k + suc n) l)) (sym (full-digit x m full (b (i + k))))
+
+-- what `eight` makes of the eight bytes from a place on
+abbrev pub eightAt : List ℕ → ℕ → ℕ
+eightAt l i =
+    getD l i 0 + getD l (i + 1) 0 * 256 + getD l (i + 2) 0 * 65536 + getD l (i + 3) 0 * 16777216
+    + getD l (i + 4) 0 * 4294967296 + getD l (i + 5) 0 * 1099511627776 + getD l (i + 6) 0 * 281474976710656
+    + getD l (i + 7) 0 * 72057594037927936
+
+pub eight-next : (l : List ℕ) (i : ℕ) → ((j : ℕ) → getD l j 0 ≤ 255) → i + 8 ≤ length l
+    → isErased (drop i l) ≡ (eqb (eightAt l i) 18446744073709551615 && isErased (drop (i + 8) l))
+eight-next l i b h =
+    let none = add-zero i in
+    let first : getD l (i + 0) 0 ≡ getD l i 0 = ap (λ (j : ℕ). getD l j 0) none in
+    let same : numberFrom l i 0 8 ≡ eightAt l i = omega (arith, first) in
+    let end : i + 0 + 8 ≡ i + 8 = omega arith in
+    sym (ap (λ (j : ℕ). isErased (drop j l)) none)
+    ∙ bytes-next l i 0 8 b (omega arith)
+    ∙ ap₂ (λ (m j : ℕ). eqb m 18446744073709551615 && isErased (drop j l)) same end
+
+-- one eight more, joined by AND to those before it
+pub eight-joined : (l : List ℕ) (t : Bool) (full all x i j : ℕ) → all ≤ full → x ≤ full
+    → t ≡ (eqb all full && isErased (drop i l)) → isErased (drop i l) ≡ (eqb x full && isErased (drop j l))
+    → t ≡ (eqb (bitAnd all x) full && isErased (drop j l))
+eight-joined l t full all x i j ha hx e q =
+    e
+    ∙ ap (λ (u : Bool). eqb all full && u) q
+    ∙ sym (and-assoc (eqb all full) (eqb x full) (isErased (drop j l)))
+    ∙ ap (λ (u : Bool). u && isErased (drop j l)) (sym (full-and full all x ha hx))
+
+-- where the bits looked at are all set, the bytes after them decide; else the page isn't erased
+pub set-passed : (t rest : Bool) (x full : ℕ) → x ≡ full → t ≡ (eqb x full && rest) → t ≡ rest
+set-passed t rest x full h e = e ∙ ap (λ (u : Bool). u && rest) (eq-eqb x full h)
+
+pub unset-used : (t rest : Bool) (x full : ℕ) → (x ≡ full → ⊥) → t ≡ (eqb x full && rest) → false ≡ t
+unset-used t rest x full h e = sym (e ∙ ap (λ (u : Bool). u && rest) (ne-eqb x full h))
+
+pub all-passed : (l : List ℕ) (i : ℕ) (t : Bool) → length l ≤ i → t ≡ isErased (drop i l) → true ≡ t
+unfolding isErased
+all-passed l i t h e = sym (e ∙ ap isErased (drop-of-length-le l h))
+
+-- what isn't used is erased
+pub not-used : (t rest used : Bool) → t ≡ rest → used ≡ not rest → not used ≡ t
+not-used t true used e q = ap not q ∙ sym e
+not-used t false used e q = ap not q ∙ sym e
 
 -- of no bytes, yes; of others, not if the first isn't FF
 pub none-erased : (l : List ℕ) → length l ≡ 0 → true ≡ isErased l
@@ -215,9 +295,3 @@ pub first-used : (l : List ℕ) → (length l ≡ 0 → ⊥) → (getD l 0 0 ≡
 unfolding isErased
 first-used [] e h = absurd (e refl)
 first-used (x ∷ xs) e h = sym (simp (ne-eqb x 255 h))
-
-pub folded : (l : List ℕ) (i all : ℕ) → length l ≤ i → isErased l ≡ (eqb all 255 && isErased (drop i l))
-    → eqb all 255 ≡ isErased l
-unfolding isErased
-folded l i all h e =
-    sym (e ∙ ap (λ (k : List ℕ). eqb all 255 && isErased k) (drop-of-length-le l h) ∙ and-true (eqb all 255))

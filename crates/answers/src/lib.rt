@@ -17,7 +17,7 @@ use walks::Walk;
 // What a replay has printed so far: its lines; how many bytes a read showed before the call, and before
 // the walk in hand; whether the next step is one of a run that is printed as one line, and how many such
 // steps are made and not printed; and what a read showed after cuts and at the end of walks.
-#[derive(Drop)]
+#[derive(Clone, Copy)]
 pub struct Report {
     listing: Listing,
     shown: usize,

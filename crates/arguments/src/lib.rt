@@ -8,7 +8,7 @@ use copies::first;
 use digits::{Fault, Number};
 
 // Where the name of a file stands: an argument, or a file of the sample.
-#[derive(Drop)]
+#[derive(Clone, Copy)]
 pub enum Name {
     Argument(usize),
     StoryLeft,
@@ -18,7 +18,7 @@ pub enum Name {
 
 // An argument that is an option, begins as one, or is none. The help and the version stand alone; with
 // other arguments they are crowded.
-#[derive(Drop)]
+#[derive(Clone, Copy)]
 pub enum Word {
     Help,
     Version,
@@ -295,7 +295,7 @@ fn parse(word: &[u8]) -> Number {
 }
 
 // A number of an argument, or that the line which says what is wrong was printed.
-#[derive(Drop)]
+#[derive(Clone, Copy)]
 pub enum Place {
     At(u32),
     Wrong,

@@ -25,7 +25,7 @@ const MAX_NUMBER: u32 = 4294967295;
 // The call of a line: a save with its page offset, a format, a number of steps with the held data, a
 // step with bytes of the line, a read or a copy with page offset and length, a cut, or none. The
 // bytes are the digits of word 2. Of a wrong line, the fault and the number of the word that has it.
-#[derive(Drop)]
+#[derive(Clone, Copy)]
 pub enum Call {
     Nothing,
     Save(PageOffset),

@@ -24,7 +24,7 @@ use walks::{Begun, Progress, Walk};
 // A beginning: the number, 0 where the walk is begun, and the line and erased-or-not that it then
 // keeps. What else it keeps the caller gave.
 #[repr(C)]
-#[derive(Drop)]
+#[derive(Clone, Copy)]
 pub struct Start {
     pub number: u8,
     pub line: u8,
@@ -63,7 +63,7 @@ pub extern "C" fn bench_begin(left: &[u8], right: &[u8], offset: u32, data: &[u8
 
 // ---- one step
 // The state of a line number, or that no state has it.
-#[derive(Drop)]
+#[derive(Clone, Copy)]
 enum LineState {
     In(State),
     Unknown,

@@ -13,7 +13,7 @@ use pages::PageOffset;
 
 // A part that was read: how many bytes, and the first of them; 0 where there is none.
 #[repr(C)]
-#[derive(Drop)]
+#[derive(Clone, Copy)]
 pub struct Part {
     pub len: usize,
     pub first: u8,

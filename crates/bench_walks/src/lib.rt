@@ -14,7 +14,7 @@ const MOST_STEPS: u32 = 2053;
 
 // A whole walk: the number, 0 where it was walked to its end, and how many steps were made.
 #[repr(C)]
-#[derive(Drop)]
+#[derive(Clone, Copy)]
 pub struct Whole {
     pub number: u32,
     pub steps: u32,

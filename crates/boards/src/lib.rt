@@ -26,7 +26,7 @@ use walks::{Begun, Progress, Walk};
 const UNFIT: u8 = 6;
 
 // The walk in hand.
-#[derive(Drop)]
+#[derive(Clone, Copy)]
 pub enum Hand {
     Empty,
     Holding(Walk),
@@ -34,7 +34,7 @@ pub enum Hand {
 
 // A call: a save at a page offset with the data lent, a format, so many steps with the data lent, a
 // read with page offset and length, a read into the output lent, or a cut.
-#[derive(Drop)]
+#[derive(Clone, Copy)]
 pub enum Call {
     Save(PageOffset),
     Format,
@@ -47,7 +47,7 @@ pub enum Call {
 // An answer: none, a walk begun, a step made, the walk ended, document 01's number, a part of the
 // live page by its page offset and length, or that the output holds the bytes, with the number of
 // that read.
-#[derive(Drop)]
+#[derive(Clone, Copy)]
 pub enum Answer {
     Nothing,
     Begun,
@@ -60,7 +60,7 @@ pub enum Answer {
 
 // The hand after a call, how many steps were made, and the answer to the call, or to all steps after
 // those.
-#[derive(Drop)]
+#[derive(Clone, Copy)]
 pub struct Turn {
     pub hand: Hand,
     pub made: u32,

@@ -16,8 +16,9 @@ fn copy_block(src: &[u8], dst: &mut [u8])
     ensures { dst.new ≡ src.now ++ drop (length src.now) dst.old }
 {
     let mut block = [0; BLOCK];
-    bytes::copy(src, &mut block);
-    bytes::copy(&block[..src.len()], dst);
+    let count = src.len();
+    block[..count].copy_from_slice(src);
+    dst[..count].copy_from_slice(&block[..count]);
 }
 
 // Copies the bytes from one place up to another, at most a block, to the same places of a slice.

@@ -8,7 +8,7 @@ use walks::{Begun, Progress, Walk};
 // The words of LEFT and RIGHT, the first cell of both images, whose other cells hold FFFF, and
 // document 01's line, its count of a save's steps and its count of a format's at P = 4,096, where C
 // is 2,046.
-#[derive(Drop)]
+#[derive(Clone, Copy)]
 struct Row(u32, u32, u16, u32, u32, u32);
 
 const ROWS: [Row; 14] = [
@@ -67,7 +67,7 @@ fn walk_format(left: &mut [u8], right: &mut [u8], data: &[u8]) -> u32 {
 }
 
 // What is asked of two pages: their line, or how many steps a save or a format has on them.
-#[derive(Drop)]
+#[derive(Clone, Copy)]
 enum Question {
     Line,
     Save,

@@ -29,7 +29,7 @@ use verdicts::{Tally, Verdict};
 use walks::Walk;
 
 // The last walk that is begun, if there is one, and where its line is.
-#[derive(Drop)]
+#[derive(Clone, Copy)]
 struct Last {
     hand: Hand,
     at: usize,

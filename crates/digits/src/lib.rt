@@ -14,7 +14,7 @@ ghost use Rattle.digits.specs.Digits.{
 const PAST_BITS: u64 = 4294967296;
 
 // What is wrong in a line.
-#[derive(Drop)]
+#[derive(Clone, Copy)]
 pub enum Fault {
     UnknownWord,
     NoNumber,
@@ -40,7 +40,7 @@ pub fn digit(byte: u8) -> u8
 }
 
 // A decimal number as it is found, or what is wrong with it.
-#[derive(Drop)]
+#[derive(Clone, Copy)]
 pub enum Number {
     Value(u32),
     Wrong(Fault),

@@ -8,7 +8,7 @@ use walks::{Begun, Walk};
 
 // The length of the pages, a page offset, a length, and document 01's number for them; 0 where they
 // are legal. At number 1 document 01 names no offset and no length: 4 and 2 meet no other number.
-#[derive(Drop)]
+#[derive(Clone, Copy)]
 struct Vector(usize, u32, u32, u8);
 
 const VECTORS: [Vector; 5] = [
@@ -20,7 +20,7 @@ const VECTORS: [Vector; 5] = [
 ];
 
 // What the library is asked for: the read without a copy, the copying read, a save or a format.
-#[derive(Drop)]
+#[derive(Clone, Copy)]
 enum Question {
     Read,
     Copy,
@@ -30,14 +30,14 @@ enum Question {
 
 // The number that came, 255 where a vector wants more bytes than there are; and whether the bytes of
 // a read are those that go with it.
-#[derive(Drop)]
+#[derive(Clone, Copy)]
 struct Answer {
     number: u8,
     fitting: bool,
 }
 
 // Whether each question was answered as document 01 does.
-#[derive(Drop)]
+#[derive(Clone, Copy)]
 struct Right {
     read: bool,
     copy: bool,
@@ -261,7 +261,7 @@ fn run(out: &mut [u8; 65536], vector: Vector) -> Right {
 }
 
 // How many vectors were answered wrong, by what was asked.
-#[derive(Drop)]
+#[derive(Clone, Copy)]
 struct Wrong {
     reads: u64,
     copies: u64,

@@ -22,14 +22,14 @@ const ALL_SET: u64 = 18446744073709551615;
 const BLOCK: usize = 64;
 
 // What stands at a place: a cell with its number, or no cell.
-#[derive(Drop)]
+#[derive(Clone, Copy)]
 pub enum Cell {
     Holds(u16),
     Outside,
 }
 
 // Whether a cell was programmed: yes, or the step doesn't fit.
-#[derive(Drop)]
+#[derive(Clone, Copy)]
 pub enum Programmed {
     Made,
     Unfit,

@@ -9,7 +9,7 @@ use replays::Replayed;
 // how many bytes of the output the answers take, or the byte of the script at which the refused
 // call begins.
 #[repr(C)]
-#[derive(Drop)]
+#[derive(Clone, Copy)]
 pub struct Report {
     pub status: u32,
     pub place: usize,

@@ -163,7 +163,7 @@ fn number_of(progress: Progress) -> u32
 }
 
 // What the last step says, and how many were made.
-#[derive(Drop)]
+#[derive(Clone, Copy)]
 struct Driven {
     number: u32,
     made: u32,

@@ -13,7 +13,7 @@ use pages::{Live, Side, State};
 use plans::Request;
 
 // The line of two pages, and whether what has to be blank is erased already.
-#[derive(Drop)]
+#[derive(Clone, Copy)]
 pub struct Start {
     pub state: State,
     pub erased: bool,

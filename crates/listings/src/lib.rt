@@ -8,7 +8,7 @@ use digits::Fault;
 
 // How many lines were passed, whether the last of them is a heading, and from which second on it is
 // said how far the run is.
-#[derive(Drop)]
+#[derive(Clone, Copy)]
 pub struct Listing {
     pub number: u64,
     pub heading: bool,

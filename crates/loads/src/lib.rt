@@ -8,14 +8,14 @@ use arguments::{Name, Place};
 use requests::Check;
 
 // How many bytes of a file were read, or the number of the error.
-#[derive(Drop)]
+#[derive(Clone, Copy)]
 enum Loaded {
     Read(usize),
     Failed(i32),
 }
 
 // How many bytes were read, or that the line which says what is wrong was printed.
-#[derive(Drop)]
+#[derive(Clone, Copy)]
 pub enum Input {
     Bytes(usize),
     Wrong,
@@ -23,7 +23,7 @@ pub enum Input {
 
 // Where two pages come from: their names and, where both are in one file, from which byte on each is
 // and how long both are.
-#[derive(Drop)]
+#[derive(Clone, Copy)]
 pub struct Source {
     pub left: Name,
     pub right: Name,
@@ -388,7 +388,7 @@ pub fn load_pages(
 
 // ---- the pages' arguments
 // Where two pages come from, or that the line which says what is wrong was printed.
-#[derive(Drop)]
+#[derive(Clone, Copy)]
 pub enum Sourced {
     From(Source),
     Wrong,

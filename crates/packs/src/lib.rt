@@ -38,20 +38,20 @@ const PLACE_AT: usize = 16;
 const ZERO_AT: usize = 20;
 
 // What a buffer holds: a walk, or what no packing makes.
-#[derive(Drop)]
+#[derive(Clone, Copy)]
 pub enum Unpacked {
     On(Walk),
     Wrong,
 }
 
 // ---- codes
-#[derive(Drop)]
+#[derive(Clone, Copy)]
 enum Kind {
     Of(Request),
     Unknown,
 }
 
-#[derive(Drop)]
+#[derive(Clone, Copy)]
 enum Bit {
     Is(bool),
     Unknown,

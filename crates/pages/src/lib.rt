@@ -23,7 +23,7 @@ pub const MIN_PAGE: usize = 8;
 
 pub const MAX_PAGE: usize = 4096;
 
-#[derive(Drop)]
+#[derive(Clone, Copy)]
 pub enum Side {
     Left,
     Right,
@@ -31,7 +31,7 @@ pub enum Side {
 
 // The state of a pair of management words: a line of document 01, under its number. S1 is the lines
 // 1 and 4, which hold the same words; S0 is every pair that is in no other line.
-#[derive(Drop)]
+#[derive(Clone, Copy)]
 pub enum State {
     S0,
     S1,
@@ -103,27 +103,27 @@ impl State {
 }
 
 // The state that a line number names, if one does.
-#[derive(Drop)]
+#[derive(Clone, Copy)]
 pub enum LineState {
     In(State),
     Unknown,
 }
 
 // Which page is live, if any.
-#[derive(Drop)]
+#[derive(Clone, Copy)]
 pub enum Live {
     Nowhere,
     On(Side),
 }
 
-#[derive(Drop)]
+#[derive(Clone, Copy)]
 pub struct Status {
     pub state: State,
     pub live: Live,
 }
 
 // A row of the table: the word of LEFT, the word of RIGHT, their state and the live side.
-#[derive(Drop)]
+#[derive(Clone, Copy)]
 pub struct Row(pub u32, pub u32, pub State, pub Side);
 
 // The byte at a place, or 0 past the end.
@@ -162,11 +162,11 @@ pub fn word(page: &[u8]) -> u32
 }
 
 // An offset from byte 0 of a page: what requests give.
-#[derive(Drop)]
+#[derive(Clone, Copy)]
 pub struct PageOffset(pub u32);
 
 // An offset from the first byte of the image.
-#[derive(Drop)]
+#[derive(Clone, Copy)]
 pub struct ImageOffset(pub u32);
 
 // The last offset of 32 bits.

@@ -9,7 +9,7 @@ ghost use Rattle.plans.specs.Counts.{cell_count, added, format_count, step_count
 use pages::{ImageOffset, Side, State};
 use steps::Step;
 
-#[derive(Drop)]
+#[derive(Clone, Copy)]
 pub enum Request {
     Save,
     Format,
@@ -17,7 +17,7 @@ pub enum Request {
 
 // An entry of the list of steps: the state of the pages before it, the flash step, and whether it
 // is the deciding store.
-#[derive(Drop)]
+#[derive(Clone, Copy)]
 pub struct Entry {
     pub state: State,
     pub step: Step,
@@ -26,7 +26,7 @@ pub struct Entry {
 
 // What stands at a place of the list: an entry; an image cell, by the line before it, the side that
 // it is programmed on and its image offset; or nothing, at the end and beyond.
-#[derive(Drop)]
+#[derive(Clone, Copy)]
 pub enum Spot {
     Fixed(Entry),
     Cell(State, Side, ImageOffset),
@@ -34,7 +34,7 @@ pub enum Spot {
 }
 
 // Whether an image cell stands at a place of the list, and which: its side and its image offset.
-#[derive(Drop)]
+#[derive(Clone, Copy)]
 pub enum InCells {
     At(Side, ImageOffset),
     Outside,

@@ -21,7 +21,7 @@ use pages::{Live, PageOffset, Side};
 use requests::{Check, Refusal};
 
 // How a read is answered: the bytes are given, the request is refused, or no page is live.
-#[derive(Drop)]
+#[derive(Clone, Copy)]
 pub enum Reading {
     Given,
     Refused(Refusal),
@@ -42,7 +42,7 @@ impl Reading {
 }
 
 // Where a read finds its bytes: on a side, or nowhere.
-#[derive(Drop)]
+#[derive(Clone, Copy)]
 pub enum Found {
     Refused(Refusal),
     NoLive,

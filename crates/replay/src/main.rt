@@ -8,7 +8,7 @@ use copies::first;
 use loads::{Input, Source, Sourced};
 
 // Which lines are asked for: one for a run of image cells, all, or the cuts.
-#[derive(Drop)]
+#[derive(Clone, Copy)]
 enum Mode {
     Folded,
     All,

@@ -45,7 +45,7 @@ const OUTPUT: u8 = 0x21;
 
 // How a replay is answered: how many bytes the answers take, or where the script is malformed or
 // its answers have no room.
-#[derive(Drop)]
+#[derive(Clone, Copy)]
 pub enum Replayed {
     Done(usize),
     Malformed(usize),
@@ -53,7 +53,7 @@ pub enum Replayed {
 }
 
 // Bytes of the script by their place and length.
-#[derive(Drop)]
+#[derive(Clone, Copy)]
 struct Span {
     start: usize,
     len: u32,
@@ -61,7 +61,7 @@ struct Span {
 
 // An answer: its first byte, so many times a number after it and a part of the live page, and
 // whether a walk was begun.
-#[derive(Drop)]
+#[derive(Clone, Copy)]
 struct Reply {
     code: u8,
     count: usize,
@@ -74,7 +74,7 @@ struct Reply {
 // How a call of a script is made: the call of a board, how many answers it has, where the data and
 // the output lie in the script that are lent to it, and how many bytes of its answer stand before
 // that output.
-#[derive(Drop)]
+#[derive(Clone, Copy)]
 struct Job {
     call: Call,
     times: u32,
@@ -85,7 +85,7 @@ struct Job {
 
 // What is kept from call to call: the walk in hand, where its data lies in the script, and the
 // place in the output.
-#[derive(Drop)]
+#[derive(Clone, Copy)]
 struct Ran {
     hand: Hand,
     held: Span,
@@ -125,7 +125,8 @@ fn put_part(out: &mut [u8], at: usize, bytes: &[u8])
     requires { at + length bytes.now ≤ length out.old }
     ensures { out.new ≡ overlaid out.old at bytes.now }
 {
-    bytes::copy(bytes, &mut out[at..]);
+    let end = at + bytes.len();
+    out[at..end].copy_from_slice(bytes);
 }
 
 // ---- answers

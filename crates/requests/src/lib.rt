@@ -17,7 +17,7 @@ ghost use Rattle.requests.specs.Numbers.{
 use pages::PageOffset;
 
 // Why a request is refused, whatever the pages hold: document 01's numbers 1 to 4.
-#[derive(Drop)]
+#[derive(Clone, Copy)]
 pub enum Refusal {
     PageLength,
     OddRequest,
@@ -26,7 +26,7 @@ pub enum Refusal {
 }
 
 // Whether a request is legal.
-#[derive(Drop)]
+#[derive(Clone, Copy)]
 pub enum Check {
     Legal,
     Refused(Refusal),

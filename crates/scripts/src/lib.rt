@@ -26,7 +26,7 @@ const MAX_PART: u32 = 4092;
 
 // A call of a script. The last number of a save, a step with bytes and a read into an output is how
 // many bytes of its own follow the head.
-#[derive(Drop)]
+#[derive(Clone, Copy)]
 pub enum Item {
     Save(PageOffset, u32),
     Format,
@@ -159,7 +159,7 @@ pub fn item_at(script: &[u8], at: usize) -> Item
 
 // What a check of a script says: every call is well formed and its answers have room, or the byte
 // at which the first call begins that isn't or hasn't.
-#[derive(Drop)]
+#[derive(Clone, Copy)]
 pub enum Verdict {
     Whole,
     Malformed(usize),

@@ -20,7 +20,7 @@ use boards::{Answer, Hand};
 
 // The walk in hand, where the line is that began it, where the next line is, and how many steps of the
 // line before that are still to be made.
-#[derive(Drop)]
+#[derive(Clone, Copy)]
 pub struct Session {
     pub hand: Hand,
     pub began: usize,
@@ -30,7 +30,7 @@ pub struct Session {
 
 // The session after a call, and the answer to it or, where a step isn't made, to it and all that are
 // left; of a line with no call, to none. The answer to a copy has so many bytes of the output.
-#[derive(Drop)]
+#[derive(Clone, Copy)]
 pub struct Answered {
     pub session: Session,
     pub times: u32,

@@ -11,7 +11,7 @@ use plans::{Entry, Spot};
 use walks::{Begun, Walk};
 
 // What is to be noted of two pages.
-#[derive(Drop)]
+#[derive(Clone, Copy)]
 struct Notes {
     one: bool,
     shared: bool,

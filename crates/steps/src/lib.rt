@@ -12,7 +12,7 @@ use pages::{ImageOffset, PageOffset, Side};
 
 // A flash step and the side whose page it is made on. A mark is named by its page offset, an image
 // cell by its image offset.
-#[derive(Drop)]
+#[derive(Clone, Copy)]
 pub enum Step {
     Mark(Side, PageOffset, u16),
     Image(Side, ImageOffset, u16),

@@ -22,7 +22,7 @@ use boards::{Answer, Call, Hand};
 
 // The walk in hand after a call, where the line is that began it, how many steps were made, and the
 // answer, as the engine has them.
-#[derive(Drop)]
+#[derive(Clone, Copy)]
 pub struct Turned {
     pub hand: Hand,
     pub began: usize,
@@ -33,7 +33,7 @@ pub struct Turned {
 // What is done next: whether a call is made, and how many steps are left where none is; where the line
 // after it is; the call, where its data is, where the line is that begins its walk, and how many bytes
 // it copies.
-#[derive(Drop)]
+#[derive(Clone, Copy)]
 pub struct Plan {
     pub made: bool,
     pub steps: u32,

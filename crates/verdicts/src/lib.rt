@@ -26,7 +26,7 @@ const MAX_PAGE: usize = pages::MAX_PAGE;
 
 // What a read shows after a cut: no image, as before; the image before, which may be the new one too;
 // the new one; no image, as a format is to leave; or another.
-#[derive(Drop)]
+#[derive(Clone, Copy)]
 pub enum Verdict {
     NoImage,
     Old,
@@ -37,7 +37,7 @@ pub enum Verdict {
 }
 
 // How often a read showed what.
-#[derive(Drop)]
+#[derive(Clone, Copy)]
 pub struct Tally {
     pub old: u64,
     pub new: u64,

@@ -131,7 +131,7 @@ pub fn counts(out: &mut [u8; 65536], walk: Walk) {
 
 // ---- what a read shows
 // What was under way: a save, a format, or nothing, and then the power was cut.
-#[derive(Drop)]
+#[derive(Clone, Copy)]
 pub enum Event {
     Save,
     Format,
@@ -208,7 +208,7 @@ pub fn print_tally(out: &mut [u8; 65536], cuts: u64, tally: Tally) {
 
 // ---- rows of an image
 // Which rows are folded: those that hold FF only, or those in which no byte changed.
-#[derive(Drop)]
+#[derive(Clone, Copy)]
 enum Fold {
     Erased,
     Unchanged,

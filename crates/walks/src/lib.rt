@@ -39,7 +39,7 @@ use requests::{Check, Refusal};
 
 // A walk: the request, the line and erased-or-not that it began with, P, page offset, length, and
 // its place in the list.
-#[derive(Drop)]
+#[derive(Clone, Copy)]
 pub struct Walk {
     pub request: Request,
     pub start: State,
@@ -51,14 +51,14 @@ pub struct Walk {
 }
 
 // How a beginning is answered.
-#[derive(Drop)]
+#[derive(Clone, Copy)]
 pub enum Begun {
     On(Walk),
     Refused(Refusal),
 }
 
 // How a step is answered: made, no step is left, or it doesn't fit.
-#[derive(Drop)]
+#[derive(Clone, Copy)]
 pub enum Progress {
     Made,
     Ended,
@@ -66,7 +66,7 @@ pub enum Progress {
 }
 
 // The walk handed back, at its next place where the step was made, else as it was.
-#[derive(Drop)]
+#[derive(Clone, Copy)]
 pub struct Stepped {
     pub walk: Walk,
     pub progress: Progress,
@@ -74,7 +74,7 @@ pub struct Stepped {
 
 // How far a walk was stepped: the walk handed back, how many steps were made, and what the last one
 // said; Made where as many were made as were asked for.
-#[derive(Drop)]
+#[derive(Clone, Copy)]
 pub struct Ran {
     pub walk: Walk,
     pub steps: u32,

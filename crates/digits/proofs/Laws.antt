@@ -3,7 +3,7 @@
 -- Assumes nothing.
 use Prim.Native.Nat.{ℕ, zero, suc, ◌+◌, ◌-◌, ◌*◌, ◌/◌, ◌<◌, ◌≤◌}
 use mathlib.Core.Path.{◌≡◌, refl, sym, ap, ◌∙◌}
-use mathlib.Core.Bool.{Bool, true, false, cond, ◌&&◌, and_false}
+use mathlib.Core.Bool.{Bool, true, false, cond, ◌&&◌, and-false}
 use mathlib.Core.List.{List, [], ◌∷◌, ◌++◌}
 use native.Mathlib.Numerals.{add-one}
 use native.Mathlib.Omega.{arith}
@@ -38,7 +38,7 @@ pub within_low : (low high b : ℕ) → b < low → within low high b ≡ false
 within_low low high b h = simp (lt-leb low b h)
 
 pub within_high : (low high b : ℕ) → high < b → within low high b ≡ false
-within_high low high b h = ap (λ (t : Bool). leb low b && t) (lt-leb b high h) ∙ and_false (leb low b)
+within_high low high b h = ap (λ (t : Bool). leb low b && t) (lt-leb b high h) ∙ and-false (leb low b)
 
 pub digit_decimal : (b : ℕ) → 48 ≤ b → b ≤ 57 → b - 48 ≡ digit_of b
 unfolding digit_of

@@ -1,0 +1,15 @@
+-- `digits::is_hex` meets its contract. The loop's invariant: all are digits if those left are. Assumes nothing.
+use Prim.Native.Nat.{◌-◌, ◌≤◌}
+use mathlib.Core.Path.{◌≡◌, refl}
+use native.Mathlib.Omega.{arith}
+use lib.ListN.{length, drop}
+use borrow.Author.Rules.{rules}
+use Rattle.digits.specs.Digits.{all_hex}
+use Rattle.digits.proofs.Laws.{hex_bad, hex_on, hex_all}
+use Rattle.digits.proofs.is_hex.Given as goal
+
+abbrev pub invariant-loop-i : goal.invariant-loop-i
+invariant-loop-i l = (l.i ≤ length l.word) × (all_hex (drop l.i l.word) ≡ all_hex l.word)
+
+abbrev pub decreases-loop-i : goal.decreases-loop-i
+decreases-loop-i l = length l.word - l.i

@@ -1,0 +1,16 @@
+-- `flash::erase` meets its contract. The loop's invariant: the bytes before i are FF, the others as they were.
+-- Assumes nothing.
+use Prim.Native.Nat.{◌≤◌, ◌-◌}
+use mathlib.Core.Path.{◌≡◌, refl}
+use mathlib.Core.List.{◌++◌}
+use native.Mathlib.Omega.{arith}
+use lib.ListN.{length, drop, replicate, length-set}
+use borrow.Author.Rules.{rules}
+use Rattle.flash.proofs.Laws.{fill_step, filled}
+use Rattle.flash.proofs.erase.Given as goal
+
+abbrev pub invariant-loop-i : goal.invariant-loop-i
+invariant-loop-i l = (l.i ≤ length l.initial.page) × ((length l.page ≡ length l.initial.page) × (l.page ≡ replicate l.i 255 ++ drop l.i l.initial.page))
+
+abbrev pub decreases-loop-i : goal.decreases-loop-i
+decreases-loop-i l = length l.page - l.i

@@ -1,0 +1,7 @@
+-- `bench_reads::bench_part` meets its contract: the part that was read, by its length and first byte. Assumes nothing.
+use Rattle.bench_reads.proofs.Laws.{part_seen}
+use borrow.Author.Rules.{rules}
+use Rattle.bench_reads.proofs.bench_part.Goals as goal
+
+pub returns : goal.returns
+returns c = part_seen _ _ _ c.first_of-first.ensures c.read-part.ensures

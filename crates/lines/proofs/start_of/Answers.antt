@@ -1,0 +1,12 @@
+-- `lines::start_of` meets its contract: the live side that was found is that of the state. Assumes nothing.
+use mathlib.Core.Path.{ap}
+use Rattle.lines.specs.Starts.{begins_in}
+use Rattle.lines.proofs.Laws.{looked}
+use borrow.Author.Rules.{rules}
+use Rattle.lines.proofs.start_of.Goals as goal
+
+pub returns : goal.returns
+returns c =
+    ap begins_in
+    (looked c.args.request c.args.left.now c.args.right.now c.status_of-status.result c.find_erased-erased.result
+    c.status_of-status.ensures c.find_erased-erased.ensures)

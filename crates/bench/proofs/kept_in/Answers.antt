@@ -1,0 +1,7 @@
+-- `bench::kept_in` meets its contract: the line is that of the state. Assumes nothing.
+use borrow.Author.Rules.{rules}
+use Rattle.bench.proofs.kept_in.Goals as goal
+
+pub returns : goal.returns
+returns c =
+    λ i. record { number = 0; line = c.line-line.ensures i; erased = c.args.walk.erased }

@@ -1,6 +1,8 @@
 // What the board answers to the calls of a script, in words: the lines of the script, each answer over
 // the pages after it, a run of image cells as one line, and what a read shows after cuts and at the end
 // of walks. The lines are in docs/FORMATS.md. Nothing here is lent a page for writing.
+#![tactic(auto)]
+
 use asks::Call;
 use boards::{Answer, Hand};
 use copies::first;
@@ -8,6 +10,7 @@ use flash::Cell;
 use listings::Listing;
 use pages::{ImageOffset, Side};
 use plans::Spot;
+use prints::Output;
 use sessions::{Answered, Session};
 use steps::Step;
 use verdicts::{Tally, Verdict};
@@ -64,7 +67,7 @@ fn value_on(side: Side, left: &[u8], right: &[u8], at: ImageOffset) -> u16 {
 
 // Prints what stands at a place of a walk and was made on the pages: an image cell by the number
 // that it then has.
-fn made(out: &mut [u8; 65536], spot: Spot, left: &[u8], right: &[u8]) {
+fn made(out: &mut Output, spot: Spot, left: &[u8], right: &[u8]) {
     match spot {
         Spot::Fixed(entry) => {
             let step = entry.step;
@@ -80,7 +83,7 @@ fn made(out: &mut [u8; 65536], spot: Spot, left: &[u8], right: &[u8]) {
 }
 
 // Prints the step at a walk's place, which was made on the pages.
-fn step(out: &mut [u8; 65536], walk: Walk, left: &[u8], right: &[u8]) {
+fn step(out: &mut Output, walk: Walk, left: &[u8], right: &[u8]) {
     prints::filled(
         out,
         b"  step # of #: ",
@@ -92,7 +95,7 @@ fn step(out: &mut [u8; 65536], walk: Walk, left: &[u8], right: &[u8]) {
 
 // ---- a cut
 // Prints where in a walk that has steps left, and has made some, the power is cut.
-fn between(out: &mut [u8; 65536], walk: Walk) {
+fn between(out: &mut Output, walk: Walk) {
     prints::filled(
         out,
         b" after step # of #",
@@ -106,7 +109,7 @@ fn between(out: &mut [u8; 65536], walk: Walk) {
 }
 
 // Prints where in a walk the power is cut.
-fn moment(out: &mut [u8; 65536], walk: Walk, event: Event) {
+fn moment(out: &mut Output, walk: Walk, event: Event) {
     if walk.place == walk.total() {
         views::by_event(out, b" after the save's end| after the format's end", event);
     } else if walk.place == 0 {
@@ -117,7 +120,7 @@ fn moment(out: &mut [u8; 65536], walk: Walk, event: Event) {
 }
 
 // Prints what then stays.
-fn stays(out: &mut [u8; 65536], walk: Walk, event: Event) {
+fn stays(out: &mut Output, walk: Walk, event: Event) {
     if walk.place < views::deciding(walk) {
         views::by_event(
             out,
@@ -130,7 +133,7 @@ fn stays(out: &mut [u8; 65536], walk: Walk, event: Event) {
 }
 
 // Prints what a cut does to a walk.
-fn cut(out: &mut [u8; 65536], walk: Walk) {
+fn cut(out: &mut Output, walk: Walk) {
     let request = walk.request;
     let event = views::event_of(request);
     prints::text(out, b"  the power is cut");
@@ -139,7 +142,7 @@ fn cut(out: &mut [u8; 65536], walk: Walk) {
 }
 
 // ---- numbers and bytes
-fn meaning(out: &mut [u8; 65536], number: u8) {
+fn meaning(out: &mut Output, number: u8) {
     prints::item(
         out,
         b"|the pages have no legal length|the offset or the length is odd|the offset is below 4|past the end of the page|no page is live|the step doesn't fit, nothing is changed",
@@ -147,19 +150,19 @@ fn meaning(out: &mut [u8; 65536], number: u8) {
     );
 }
 
-fn number(out: &mut [u8; 65536], refusal: u8) {
+fn number(out: &mut Output, refusal: u8) {
     prints::filled(out, b"  number #: ", &[refusal as u64]);
     meaning(out, refusal);
 }
 
 // Prints that a call is refused with one of document 01's numbers.
-fn refused(out: &mut [u8; 65536], refusal: u8) {
+fn refused(out: &mut Output, refusal: u8) {
     number(out, refusal);
     prints::text(out, b"\n");
 }
 
 // Prints a byte, with a blank before it unless it is the first.
-fn byte(out: &mut [u8; 65536], b: u8, first: bool) {
+fn byte(out: &mut Output, b: u8, first: bool) {
     if first {
         prints::hex(out, b as u64, 2);
     } else {
@@ -167,13 +170,13 @@ fn byte(out: &mut [u8; 65536], b: u8, first: bool) {
     }
 }
 
-fn each_byte(out: &mut [u8; 65536], part: &[u8]) {
+fn each_byte(out: &mut Output, part: &[u8]) {
     for i in 0..part.len() {
         byte(out, part[i], i == 0);
     }
 }
 
-fn bytes(out: &mut [u8; 65536], part: &[u8]) {
+fn bytes(out: &mut Output, part: &[u8]) {
     if part.len() == 0 {
         prints::text(out, b"no bytes");
     } else {
@@ -182,14 +185,14 @@ fn bytes(out: &mut [u8; 65536], part: &[u8]) {
 }
 
 // Prints the bytes that a read gives.
-fn given(out: &mut [u8; 65536], part: &[u8]) {
+fn given(out: &mut Output, part: &[u8]) {
     prints::text(out, b"  given: ");
     bytes(out, part);
     prints::text(out, b"\n");
 }
 
 // Prints the answer to a copy by its number, 0 where it is none, with what its output then holds.
-fn copy(out: &mut [u8; 65536], refusal: u8, output: &[u8]) {
+fn copy(out: &mut Output, refusal: u8, output: &[u8]) {
     if refusal == 0 {
         given(out, output);
     } else {
@@ -202,7 +205,7 @@ fn copy(out: &mut [u8; 65536], refusal: u8, output: &[u8]) {
 
 // ---- the pages
 // Prints an image as far as it isn't the one before, of which none counts as another.
-fn show_image(out: &mut [u8; 65536], image: &[u8], before: &[u8]) {
+fn show_image(out: &mut Output, image: &[u8], before: &[u8]) {
     if image.len() == 0 {
         prints::text(out, b"; a read is answered 5\n");
     } else if check::same(image, before) {
@@ -214,14 +217,14 @@ fn show_image(out: &mut [u8; 65536], image: &[u8], before: &[u8]) {
 }
 
 // Prints the pages and what a read shows, beside what it showed before.
-pub fn show<'a>(out: &mut [u8; 65536], left: &'a [u8], right: &'a [u8], before: &[u8]) {
+pub fn show<'a>(out: &mut Output, left: &'a [u8], right: &'a [u8], before: &[u8]) {
     prints::text(out, b"  ");
     views::words(out, left, right);
     show_image(out, verdicts::image(left, right), before);
 }
 
 // ---- a run of image cells
-fn print_side(out: &mut [u8; 65536], spot: Spot) {
+fn print_side(out: &mut Output, spot: Spot) {
     match spot {
         Spot::Fixed(_) => {}
         Spot::Cell(_, side, _) => views::side(out, side),
@@ -230,7 +233,7 @@ fn print_side(out: &mut [u8; 65536], spot: Spot) {
 }
 
 // Prints which of its steps a walk made last, so many.
-fn print_last(out: &mut [u8; 65536], walk: Walk, count: u32) {
+fn print_last(out: &mut Output, walk: Walk, count: u32) {
     let last = walk.place as u64;
     let total = walk.total() as u64;
     if count == 1 {
@@ -253,7 +256,7 @@ fn print_last(out: &mut [u8; 65536], walk: Walk, count: u32) {
 }
 
 // Prints the last steps of a walk, so many, as one line.
-fn print_run(out: &mut [u8; 65536], walk: Walk, count: u32) {
+fn print_run(out: &mut Output, walk: Walk, count: u32) {
     print_last(out, walk, count);
     print_side(
         out,
@@ -282,7 +285,7 @@ fn is_next_cell(session: Session) -> bool {
 }
 
 fn print_cells<'a>(
-    out: &mut [u8; 65536],
+    out: &mut Output,
     hand: Hand,
     count: u32,
     left: &'a [u8],
@@ -300,7 +303,7 @@ fn print_cells<'a>(
 
 // Prints the run of image cells that isn't printed yet.
 fn end_run<'a>(
-    out: &mut [u8; 65536],
+    out: &mut Output,
     report: Report,
     session: Session,
     left: &'a [u8],
@@ -338,7 +341,7 @@ fn keep_shown<'a>(report: Report, left: &'a [u8], right: &'a [u8], shown: &mut [
 }
 
 // Prints the next line of a script where one is taken.
-fn print_line(out: &mut [u8; 65536], report: Report, session: Session, text: &[u8]) -> Report {
+fn print_line(out: &mut Output, report: Report, session: Session, text: &[u8]) -> Report {
     if 0 < session.left {
         return report;
     }
@@ -359,7 +362,7 @@ fn sets_folds(report: Report, folds: bool) -> Report {
 // Prints what comes before the next call of a session, over the pages before it, and keeps what a read
 // shows. With `all` every step has its own lines.
 pub fn before<'a>(
-    out: &mut [u8; 65536],
+    out: &mut Output,
     report: Report,
     session: Session,
     text: &[u8],
@@ -379,7 +382,7 @@ pub fn before<'a>(
 }
 
 // ---- answers
-fn print_begun(out: &mut [u8; 65536], hand: Hand) {
+fn print_begun(out: &mut Output, hand: Hand) {
     match hand {
         Hand::Empty => {}
         Hand::Holding(walk) => {
@@ -390,7 +393,7 @@ fn print_begun(out: &mut [u8; 65536], hand: Hand) {
 }
 
 // Prints that a step which has data of its own was handed the held data.
-fn print_handed(out: &mut [u8; 65536], left: u32) {
+fn print_handed(out: &mut Output, left: u32) {
     if left == 0 {
         prints::text(
             out,
@@ -400,7 +403,7 @@ fn print_handed(out: &mut [u8; 65536], left: u32) {
 }
 
 // Prints the step that was made of the walk that was in hand.
-fn print_step(out: &mut [u8; 65536], hand: Hand, left: &[u8], right: &[u8]) {
+fn print_step(out: &mut Output, hand: Hand, left: &[u8], right: &[u8]) {
     match hand {
         Hand::Empty => {}
         Hand::Holding(walk) => step(out, walk, left, right),
@@ -409,7 +412,7 @@ fn print_step(out: &mut [u8; 65536], hand: Hand, left: &[u8], right: &[u8]) {
 
 // Prints it, and the pages after it.
 fn print_made<'a>(
-    out: &mut [u8; 65536],
+    out: &mut Output,
     session: Session,
     left: &'a [u8],
     right: &'a [u8],
@@ -421,24 +424,24 @@ fn print_made<'a>(
     show(out, left, right, before);
 }
 
-fn print_lost(out: &mut [u8; 65536], hand: Hand) {
+fn print_lost(out: &mut Output, hand: Hand) {
     match hand {
         Hand::Empty => prints::text(out, b"  the power is cut: no save or format is under way\n"),
         Hand::Holding(walk) => cut(out, walk),
     }
 }
 
-fn print_cut<'a>(out: &mut [u8; 65536], hand: Hand, left: &'a [u8], right: &'a [u8]) {
+fn print_cut<'a>(out: &mut Output, hand: Hand, left: &'a [u8], right: &'a [u8]) {
     print_lost(out, hand);
     show(out, left, right, verdicts::image(left, right));
 }
 
-fn print_idle(out: &mut [u8; 65536]) {
+fn print_idle(out: &mut Output) {
     prints::text(out, b"  no walk is in hand: nothing happens\n");
 }
 
 // Prints what has no answer: a cut, a step with no walk, or a line with no call.
-fn print_none<'a>(out: &mut [u8; 65536], line: &[u8], hand: Hand, left: &'a [u8], right: &'a [u8]) {
+fn print_none<'a>(out: &mut Output, line: &[u8], hand: Hand, left: &'a [u8], right: &'a [u8]) {
     match asks::parse(line) {
         Call::Cut => print_cut(out, hand, left, right),
         Call::StepWith => print_idle(out),
@@ -447,7 +450,7 @@ fn print_none<'a>(out: &mut [u8; 65536], line: &[u8], hand: Hand, left: &'a [u8]
 }
 
 fn print_nothing<'a>(
-    out: &mut [u8; 65536],
+    out: &mut Output,
     session: Session,
     text: &[u8],
     left: &'a [u8],
@@ -463,7 +466,7 @@ fn print_nothing<'a>(
 
 // Prints the answer to a call of a session, over the pages after it.
 fn print_answer<'a>(
-    out: &mut [u8; 65536],
+    out: &mut Output,
     answered: Answered,
     session: Session,
     text: &[u8],
@@ -525,7 +528,7 @@ fn idle_verdict(image: &[u8], before: &[u8]) -> Verdict {
     Verdict::Old
 }
 
-fn print_shown(out: &mut [u8; 65536], verdict: Verdict, event: Event) {
+fn print_shown(out: &mut Output, verdict: Verdict, event: Event) {
     prints::text(out, b"  a read ");
     views::print_verdict(out, verdict, event);
 }
@@ -536,7 +539,7 @@ fn walk_event(walk: Walk) -> Event {
 }
 
 // Counts and prints what a read shows after a cut.
-fn count_cut(out: &mut [u8; 65536], report: Report, verdict: Verdict, event: Event) -> Report {
+fn count_cut(out: &mut Output, report: Report, verdict: Verdict, event: Event) -> Report {
     print_shown(out, verdict, event);
     let mut next = report;
     let before = report.cuts;
@@ -547,7 +550,7 @@ fn count_cut(out: &mut [u8; 65536], report: Report, verdict: Verdict, event: Eve
 }
 
 // Counts and prints what a read shows at the end of a walk.
-fn count_end(out: &mut [u8; 65536], report: Report, verdict: Verdict, event: Event) -> Report {
+fn count_end(out: &mut Output, report: Report, verdict: Verdict, event: Event) -> Report {
     print_shown(out, verdict, event);
     let mut next = report;
     let before = report.ends;
@@ -559,7 +562,7 @@ fn count_end(out: &mut [u8; 65536], report: Report, verdict: Verdict, event: Eve
 
 // After the walk in hand was begun or stepped: where it has no step left, what a read shows.
 fn end_walk<'a>(
-    out: &mut [u8; 65536],
+    out: &mut Output,
     report: Report,
     session: Session,
     text: &[u8],
@@ -598,7 +601,7 @@ fn keep_old<'a>(report: Report, left: &'a [u8], right: &'a [u8], old: &mut [u8])
 
 // After a cut: what a read shows.
 fn end_cut<'a>(
-    out: &mut [u8; 65536],
+    out: &mut Output,
     report: Report,
     session: Session,
     text: &[u8],
@@ -641,7 +644,7 @@ fn is_cut(session: Session, text: &[u8]) -> bool {
 
 // Prints and counts what a read shows after a cut and at the end of a walk.
 fn judge_answer<'a>(
-    out: &mut [u8; 65536],
+    out: &mut Output,
     report: Report,
     answered: Answered,
     session: Session,
@@ -678,7 +681,7 @@ fn is_made(answer: Answer) -> bool {
 
 // Prints the answer to a call of a session, over the pages after it, and what a read then shows.
 pub fn after<'a>(
-    out: &mut [u8; 65536],
+    out: &mut Output,
     report: Report,
     answered: Answered,
     session: Session,
@@ -723,7 +726,7 @@ fn has_another(report: Report) -> bool {
 }
 
 // Prints the last line.
-fn print_end(out: &mut [u8; 65536], another: bool, text: &[u8]) {
+fn print_end(out: &mut Output, another: bool, text: &[u8]) {
     if another {
         prints::text(out, b"failed: a read showed another image\n");
     } else {
@@ -737,7 +740,7 @@ fn print_end(out: &mut [u8; 65536], another: bool, text: &[u8]) {
 
 // Prints what stands at the end of a script that was made.
 pub fn end<'a>(
-    out: &mut [u8; 65536],
+    out: &mut Output,
     report: Report,
     session: Session,
     text: &[u8],

@@ -1,11 +1,18 @@
 // The arguments of a program: options, names of files and numbers, how they are printed, and the line
 // that a run prints where one of them is wrong. The lines are in docs/FORMATS.md.
 //
-// No contract can say what an argument holds or what is printed.
+// No contract can say what an argument or a file holds or what is printed.
+#![tactic(auto)]
+
 ghost use Rattle.std.specs.Prelude.{◌≡◌, ◌≤◌, length};
 
 use copies::first;
 use digits::{Fault, Number};
+use prints::Output;
+use std::env::{Env, FillError};
+use std::fs::File;
+use std::io;
+use std::io::{Read, Stdin};
 
 // Where the name of a file stands: an argument, or a file of the sample.
 #[derive(Clone, Copy)]
@@ -32,7 +39,10 @@ pub enum Word {
 }
 
 // The room that an argument needs so that every name which may be opened fits.
-const NAME_SIZE: usize = libc::PATH_MAX - 1;
+const NAME_SIZE: usize = 4095;
+
+// The system's number for a name that is none.
+const NO_NAME: i32 = 22;
 
 // ---- buffers
 // A buffer for a name.
@@ -40,6 +50,26 @@ fn name_buffer() -> [u8; NAME_SIZE]
     ensures { 4095 ≡ length result }
 {
     [0; NAME_SIZE]
+}
+
+// How many arguments there are, the program's own name among them.
+pub fn count(rt: HostRuntime) -> usize {
+    for i in 0..usize::MAX {
+        let mut space = [0u8; 1];
+        if let Err(FillError::NotPresent) = rt.arg(i, &mut space) {
+            return i;
+        }
+    }
+    usize::MAX
+}
+
+// Puts an argument that fits at the start of a buffer, and tells how many bytes it has, 0 of one that
+// doesn't fit.
+fn fitting(rt: HostRuntime, i: usize, into: &mut [u8]) -> usize {
+    match rt.arg(i, into) {
+        Ok(size) => size,
+        Err(_) => 0,
+    }
 }
 
 // ---- options
@@ -51,24 +81,20 @@ fn begins_option(word: &[u8; 10]) -> bool {
 }
 
 // A word that stands alone, or is crowded.
-fn alone(word: Word) -> Word {
-    if os::arg_count() == 2 {
-        word
-    } else {
-        Word::Crowded
-    }
+fn alone(rt: HostRuntime, word: Word) -> Word {
+    if count(rt) == 2 { word } else { Word::Crowded }
 }
 
 // What an argument is.
-pub fn option(i: usize) -> Word {
+pub fn option(rt: HostRuntime, i: usize) -> Word {
     let mut space = [0u8; 10];
-    let size = os::arg(i, &mut space);
+    let size = fitting(rt, i, &mut space);
     let word = first(&space, size);
     if check::same(word, b"--help") {
-        return alone(Word::Help);
+        return alone(rt, Word::Help);
     }
     if check::same(word, b"--version") {
-        return alone(Word::Version);
+        return alone(rt, Word::Version);
     }
     if check::same(word, b"--json") {
         return Word::Json;
@@ -89,30 +115,30 @@ pub fn option(i: usize) -> Word {
 }
 
 // Puts an argument at the start of a buffer, as much of it as fits, and tells how many bytes that is.
-fn argument(i: usize, into: &mut [u8]) -> usize {
-    let size = os::arg(i, into);
-    if os::errno() == libc::ENAMETOOLONG {
-        return into.len();
+fn argument(rt: HostRuntime, i: usize, into: &mut [u8]) -> usize {
+    match rt.arg(i, into) {
+        Ok(size) => size,
+        Err(FillError::TooLong) => into.len(),
+        Err(FillError::NotPresent) => 0,
     }
-    size
 }
 
 // Prints an argument, at most so many bytes of it.
-fn print_argument(out: &mut [u8; 65536], i: usize, most: usize) {
+fn print_argument(out: &mut Output, i: usize, most: usize) {
     let mut space = name_buffer();
-    let size = argument(i, &mut space);
+    let size = argument(out.runtime(), i, &mut space);
     prints::escaped(out, first(&space, size), most);
 }
 
 // Prints that an argument begins as an option and is none here.
-pub fn fail_option(out: &mut [u8; 65536], i: usize) {
+pub fn fail_option(out: &mut Output, i: usize) {
     prints::text(out, b"failed: unknown option '");
     print_argument(out, i, 40);
     prints::text(out, b"', --help says which there are\n");
 }
 
 // Prints the last line of a run that prints the version.
-pub fn print_version(out: &mut [u8; 65536]) {
+pub fn print_version(out: &mut Output) {
     prints::text(out, b"ok: Fretgalaxy ");
     prints::version(out);
     prints::text(out, b"\n");
@@ -120,12 +146,11 @@ pub fn print_version(out: &mut [u8; 65536]) {
 
 // ---- names
 // Whether an argument may be a file's name; where it is too long, prints the line that says so.
-fn is_name(out: &mut [u8; 65536], i: usize) -> bool {
+fn is_name(out: &mut Output, i: usize) -> bool {
     let mut space = name_buffer();
-    os::arg(i, &mut space);
-    if os::errno() != libc::ENAMETOOLONG {
+    let Err(FillError::TooLong) = out.runtime().arg(i, &mut space) else {
         return true;
-    }
+    };
     prints::filled(
         out,
         b"failed: argument # is too long for a file name\n",
@@ -135,18 +160,18 @@ fn is_name(out: &mut [u8; 65536], i: usize) -> bool {
 }
 
 // Whether an argument names standard input.
-fn is_input(i: usize) -> bool {
+fn is_input(rt: HostRuntime, i: usize) -> bool {
     let mut space = [0u8; 2];
-    let size = os::arg(i, &mut space);
+    let size = fitting(rt, i, &mut space);
     check::same(first(&space, size), b"-")
 }
 
 // Whether two arguments don't both name standard input; where they do, prints the line that says so.
-fn are_apart(out: &mut [u8; 65536], i: usize, j: usize) -> bool {
-    if !is_input(i) {
+fn are_apart(out: &mut Output, i: usize, j: usize) -> bool {
+    if !is_input(out.runtime(), i) {
         return true;
     }
-    if !is_input(j) {
+    if !is_input(out.runtime(), j) {
         return true;
     }
     prints::text(out, b"failed: standard input is named twice\n");
@@ -154,19 +179,19 @@ fn are_apart(out: &mut [u8; 65536], i: usize, j: usize) -> bool {
 }
 
 // Whether two arguments are the same.
-fn are_same(i: usize, j: usize) -> bool {
+fn are_same(rt: HostRuntime, i: usize, j: usize) -> bool {
     let mut space = name_buffer();
     let mut other = name_buffer();
-    let size = os::arg(i, &mut space);
-    let other_size = os::arg(j, &mut other);
+    let size = fitting(rt, i, &mut space);
+    let other_size = fitting(rt, j, &mut other);
     check::same(first(&space, size), first(&other, other_size))
 }
 
 // Whether two names are those of one file.
-pub fn is_one_name(left: Name, right: Name) -> bool {
+pub fn is_one_name(rt: HostRuntime, left: Name, right: Name) -> bool {
     match left {
         Name::Argument(i) => match right {
-            Name::Argument(j) => are_same(i, j),
+            Name::Argument(j) => are_same(rt, i, j),
             _ => false,
         },
         _ => false,
@@ -174,10 +199,10 @@ pub fn is_one_name(left: Name, right: Name) -> bool {
 }
 
 // Prints the name of a file.
-pub fn print_name(out: &mut [u8; 65536], name: Name) {
+pub fn print_name(out: &mut Output, name: Name) {
     match name {
         Name::Argument(i) => {
-            if is_input(i) {
+            if is_input(out.runtime(), i) {
                 prints::text(out, b"standard input");
             } else {
                 print_argument(out, i, NAME_SIZE);
@@ -190,7 +215,7 @@ pub fn print_name(out: &mut [u8; 65536], name: Name) {
 }
 
 // Prints a name as what fails.
-pub fn fail(out: &mut [u8; 65536], name: Name, why: &[u8]) {
+pub fn fail(out: &mut Output, name: Name, why: &[u8]) {
     prints::text(out, b"failed: ");
     print_name(out, name);
     prints::text(out, why);
@@ -202,7 +227,7 @@ fn after(at: usize, count: usize) -> usize {
 }
 
 // Whether three names are apart and none is too long.
-fn three_right(out: &mut [u8; 65536], i: usize, j: usize, k: usize) -> bool {
+fn three_right(out: &mut Output, i: usize, j: usize, k: usize) -> bool {
     if !is_name(out, i) {
         return false;
     }
@@ -223,30 +248,56 @@ fn three_right(out: &mut [u8; 65536], i: usize, j: usize, k: usize) -> bool {
 
 // Whether the names of the pages from an argument on, and that of a script (or argument 0), may be
 // names of files; where one may not, prints the line that says so.
-pub fn names_right(out: &mut [u8; 65536], one: bool, at: usize, script: usize) -> bool {
+pub fn names_right(out: &mut Output, one: bool, at: usize, script: usize) -> bool {
     if one {
         return three_right(out, at, 0, script);
     }
     three_right(out, at, after(at, 1), script)
 }
 
-// Opens the file of an argument, or takes standard input.
-fn open_argument(i: usize) -> i32 {
-    if is_input(i) {
-        return libc::STDIN_FILENO;
-    }
-    let mut space = name_buffer();
-    let size = os::arg(i, &mut space);
-    os::open_read(first(&space, size))
+// ---- files
+// An open file, or standard input.
+#[derive(Drop)]
+pub enum Opened {
+    Input(Stdin),
+    File(File),
 }
 
-// Opens the file of a name, and answers a descriptor or -1.
-pub fn open(name: Name) -> i32 {
+impl Read for Opened {
+    fn read(&mut self, into: &mut [u8]) -> io::Result<usize> {
+        match self {
+            Opened::Input(input) => input.read(into),
+            Opened::File(file) => file.read(into),
+        }
+    }
+}
+
+// Opens the file of a name as bytes. The system's names are text here, so bytes that are none name no
+// file.
+fn open_named(rt: HostRuntime, name: &[u8]) -> io::Result<Opened> {
+    match std::str::from_utf8(name) {
+        Ok(path) => Ok(Opened::File(File::open(&rt, path)?)),
+        Err(_) => Err(io::Error::from_raw_os_error(NO_NAME)),
+    }
+}
+
+// Opens the file of an argument, or takes standard input.
+fn open_argument(rt: HostRuntime, i: usize) -> io::Result<Opened> {
+    if is_input(rt, i) {
+        return Ok(Opened::Input(rt.stdin()));
+    }
+    let mut space = name_buffer();
+    let size = fitting(rt, i, &mut space);
+    open_named(rt, first(&space, size))
+}
+
+// Opens the file of a name.
+pub fn open(rt: HostRuntime, name: Name) -> io::Result<Opened> {
     match name {
-        Name::Argument(i) => open_argument(i),
-        Name::StoryLeft => os::open_read(b"samples/story-left.bin"),
-        Name::StoryRight => os::open_read(b"samples/story-right.bin"),
-        Name::StoryScript => os::open_read(b"samples/story.txt"),
+        Name::Argument(i) => open_argument(rt, i),
+        Name::StoryLeft => open_named(rt, b"samples/story-left.bin"),
+        Name::StoryRight => open_named(rt, b"samples/story-right.bin"),
+        Name::StoryScript => open_named(rt, b"samples/story.txt"),
     }
 }
 
@@ -310,7 +361,7 @@ fn past_number(fault: Fault) -> usize {
 }
 
 // Prints that an argument is no number, or past 32 bits.
-fn say_wrong(out: &mut [u8; 65536], label: &[u8], i: usize, fault: Fault) {
+fn say_wrong(out: &mut Output, label: &[u8], i: usize, fault: Fault) {
     prints::text(out, b"failed: ");
     prints::text(out, label);
     prints::item(out, b": '|: the number ", past_number(fault));
@@ -323,9 +374,9 @@ fn say_wrong(out: &mut [u8; 65536], label: &[u8], i: usize, fault: Fault) {
 }
 
 // The number that an argument is; where it is none, prints the line that says so.
-pub fn number_at(out: &mut [u8; 65536], label: &[u8], i: usize) -> Place {
+pub fn number_at(out: &mut Output, label: &[u8], i: usize) -> Place {
     let mut space = name_buffer();
-    let size = argument(i, &mut space);
+    let size = argument(out.runtime(), i, &mut space);
     match parse(first(&space, size)) {
         Number::Value(value) => Place::At(value),
         Number::Wrong(fault) => {

@@ -1,8 +1,11 @@
 // Walks document 01's table of counts at P = 4,096, "at most 2,052 steps", and compares. The layout
 // of what it prints is in docs/FORMATS.md.
+#![tactic(auto)]
+
 ghost use Rattle.std.specs.Prelude.{◌≤◌};
 
 use pages::PageOffset;
+use prints::Output;
 use walks::{Begun, Progress, Walk};
 
 // The words of LEFT and RIGHT, the first cell of both images, whose other cells hold FFFF, and
@@ -99,19 +102,19 @@ fn measure(row: Row, question: Question) -> u32 {
     lend(&mut left, &mut right, row, question)
 }
 
-fn print_hex(out: &mut [u8; 65536], label: &[u8], number: u64, digits: usize) {
+fn print_hex(out: &mut Output, label: &[u8], number: u64, digits: usize) {
     prints::text(out, label);
     prints::hex(out, number, digits);
 }
 
-fn print_pages(out: &mut [u8; 65536], row: Row) {
+fn print_pages(out: &mut Output, row: Row) {
     print_hex(out, b"P 4096, words ", row.0 as u64, 8);
     print_hex(out, b" ", row.1 as u64, 8);
     print_hex(out, b", first cells ", row.2 as u64, 4);
     prints::text(out, b": ");
 }
 
-fn print_counts(out: &mut [u8; 65536], line: u32, save: u32, format: u32) {
+fn print_counts(out: &mut Output, line: u32, save: u32, format: u32) {
     prints::labelled(out, b"line ", line as u64);
     prints::labelled(out, b", save ", save as u64);
     prints::labelled(out, b" steps, format ", format as u64);
@@ -129,7 +132,7 @@ fn same_counts(line: u32, save: u32, format: u32, row: Row) -> bool {
 }
 
 // Prints what document 01 gives where it is something else.
-fn print_wanted(out: &mut [u8; 65536], same: bool, row: Row) {
+fn print_wanted(out: &mut Output, same: bool, row: Row) {
     if !same {
         prints::text(out, b", but document 01 gives ");
         print_counts(out, row.3, row.4, row.5);
@@ -137,7 +140,7 @@ fn print_wanted(out: &mut [u8; 65536], same: bool, row: Row) {
 }
 
 // Prints what the library counts beside a row, and says whether it is document 01's.
-fn compare(out: &mut [u8; 65536], line: u32, save: u32, format: u32, row: Row) -> bool {
+fn compare(out: &mut Output, line: u32, save: u32, format: u32, row: Row) -> bool {
     print_counts(out, line, save, format);
     let same = same_counts(line, save, format, row);
     print_wanted(out, same, row);
@@ -146,7 +149,7 @@ fn compare(out: &mut [u8; 65536], line: u32, save: u32, format: u32, row: Row) -
 }
 
 // Prints a row of the table of counts as the library walks it.
-fn run(out: &mut [u8; 65536], row: Row) -> bool {
+fn run(out: &mut Output, row: Row) -> bool {
     print_pages(out, row);
     let line = measure(row, Question::Line);
     let save = measure(row, Question::Save);
@@ -161,7 +164,7 @@ fn one_if_wrong(right: bool) -> u64
 }
 
 // Runs every row, and counts those that are walked wrong.
-fn run_all(out: &mut [u8; 65536]) -> u64 {
+fn run_all(out: &mut Output) -> u64 {
     let rows = ROWS;
     let mut wrong: u64 = 0;
     for i in 0..14 {
@@ -170,7 +173,7 @@ fn run_all(out: &mut [u8; 65536]) -> u64 {
     wrong
 }
 
-fn run_program(out: &mut [u8; 65536]) {
+fn run_program(out: &mut Output) {
     let wrong = run_all(out);
     if wrong == 0 {
         prints::text(out, b"all 14 counts are as document 01 gives them\n");
@@ -180,8 +183,8 @@ fn run_program(out: &mut [u8; 65536]) {
     }
 }
 
-fn main() {
-    let mut out = io::large_buffer();
+fn main(rt: HostRuntime) {
+    let mut out = Output::new(rt);
     run_program(&mut out);
     prints::flush(&mut out);
 }

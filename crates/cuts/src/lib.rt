@@ -1,5 +1,7 @@
 // The last save or format of a script that is begun, cut after each number of its steps, all on copies
 // of the pages. The lines are in docs/FORMATS.md; what is counted is in specs/Cuts.antt.
+#![tactic(auto)]
+
 ghost use Rattle.std.specs.Prelude.{◌≤◌, ◌≡◌, length, take, ◌+◌};
 ghost use Rattle.model.specs.Board.{powered};
 ghost use Rattle.sessions.specs.Sessions.{script_calls};
@@ -24,6 +26,7 @@ use boards::{Answer, Hand};
 use listings::Listing;
 use loads::Source;
 use plans::Request;
+use prints::Output;
 use sessions::{Answered, Session};
 use verdicts::{Tally, Verdict};
 use walks::Walk;
@@ -105,6 +108,7 @@ fn keep(
 
 // Makes a script on copies of the pages, and keeps those on which its last walk is begun.
 fn find_last(
+    rt: HostRuntime,
     text: &[u8],
     left: &[u8],
     right: &[u8],
@@ -135,7 +139,7 @@ fn find_last(
     let mut listing = Listing::new();
     let mut on = session.is_on(text);
     while on {
-        listing = listings::count(listing, session.left);
+        listing = listings::count(rt, listing, session.left);
         let mut out = turns::blank();
         let answered = sessions::next(
             text,
@@ -154,7 +158,7 @@ fn find_last(
 
 // ---- what is printed
 fn print_cut(
-    out: &mut [u8; 65536],
+    out: &mut Output,
     count: u32,
     walk: Walk,
     left: &[u8],
@@ -183,7 +187,7 @@ fn line_of(text: &[u8], at: usize, walk: Walk) -> usize {
 }
 
 // Prints the walk that is cut, after the end of the line of P.
-fn print_walk(out: &mut [u8; 65536], text: &[u8], at: usize, walk: Walk) {
+fn print_walk(out: &mut Output, text: &[u8], at: usize, walk: Walk) {
     let state = walk.start;
     prints::text(out, b"\n");
     listings::print_line_at(out, text, line_of(text, at, walk));
@@ -195,7 +199,7 @@ fn print_walk(out: &mut [u8; 65536], text: &[u8], at: usize, walk: Walk) {
 // Makes a number of a walk's steps on copies of the pages, after which the walk is lost, and prints
 // what a read shows.
 fn cut_after<'a>(
-    out: &mut [u8; 65536],
+    out: &mut Output,
     count: u32,
     walk: Walk,
     data: &[u8],
@@ -239,13 +243,7 @@ fn cut_after<'a>(
 }
 
 // Cuts a walk after each number of its steps.
-fn cut_each<'a>(
-    out: &mut [u8; 65536],
-    walk: Walk,
-    data: &[u8],
-    left: &'a [u8],
-    right: &'a [u8],
-) -> Tally
+fn cut_each<'a>(out: &mut Output, walk: Walk, data: &[u8], left: &'a [u8], right: &'a [u8]) -> Tally
     requires { (length left.now ≤ 4096) × (length right.now ≤ 4096) }
     ensures { result
         ≡ tallied (total_of walk + 1) walk
@@ -262,7 +260,7 @@ fn cut_each<'a>(
 
 // Cuts a walk of the line at a place, begun on these pages.
 fn cut_walk<'a>(
-    out: &mut [u8; 65536],
+    out: &mut Output,
     text: &[u8],
     at: usize,
     walk: Walk,
@@ -287,7 +285,7 @@ fn cut_walk<'a>(
 // Makes a script, and prints the last save or format in it that is begun and its cuts, or that there
 // is none. Pages that differ in length, or are longer than any page, have no calls.
 pub fn run<'a>(
-    out: &mut [u8; 65536],
+    out: &mut Output,
     source: Source,
     script: Name,
     text: &[u8],
@@ -305,7 +303,14 @@ pub fn run<'a>(
     }
     let mut kept_left = turns::blank();
     let mut kept_right = turns::blank();
-    let last = find_last(text, left, right, &mut kept_left, &mut kept_right);
+    let last = find_last(
+        out.runtime(),
+        text,
+        left,
+        right,
+        &mut kept_left,
+        &mut kept_right,
+    );
     let hand = last.hand;
     match hand {
         Hand::Empty => {

@@ -1,9 +1,12 @@
 // Runs those examples of document 01 that aren't starred and ask for a number, and compares: each is
 // asked as both reads, as a save and as a format. The layout of what it prints is in
 // docs/FORMATS.md.
+#![tactic(auto)]
+
 ghost use Rattle.std.specs.Prelude.{◌≤◌};
 
 use pages::PageOffset;
+use prints::Output;
 use walks::{Begun, Walk};
 
 // The length of the pages, a page offset, a length, and document 01's number for them; 0 where they
@@ -204,7 +207,7 @@ fn number_for(question: Question, number: u8) -> u8 {
 }
 
 // ---- printing
-fn print_answer(out: &mut [u8; 65536], number: u8) {
+fn print_answer(out: &mut Output, number: u8) {
     if number == 0 {
         prints::text(out, b"legal");
     } else {
@@ -212,20 +215,20 @@ fn print_answer(out: &mut [u8; 65536], number: u8) {
     }
 }
 
-fn print_vector(out: &mut [u8; 65536], vector: Vector) {
+fn print_vector(out: &mut Output, vector: Vector) {
     prints::labelled(out, b"P ", vector.0 as u64);
     prints::labelled(out, b", offset ", vector.1 as u64);
     prints::labelled(out, b", length ", vector.2 as u64);
 }
 
-fn print_fit(out: &mut [u8; 65536], fitting: bool) {
+fn print_fit(out: &mut Output, fitting: bool) {
     if !fitting {
         prints::text(out, b" with wrong bytes");
     }
 }
 
 // Prints what document 01 gives where it is another number.
-fn print_wanted(out: &mut [u8; 65536], same: bool, number: u8) {
+fn print_wanted(out: &mut Output, same: bool, number: u8) {
     if !same {
         prints::text(out, b", but document 01 gives ");
         print_answer(out, number);
@@ -233,7 +236,7 @@ fn print_wanted(out: &mut [u8; 65536], same: bool, number: u8) {
 }
 
 // Asks and prints the answer, and says whether it is document 01's.
-fn run_question(out: &mut [u8; 65536], label: &[u8], question: Question, vector: Vector) -> bool {
+fn run_question(out: &mut Output, label: &[u8], question: Question, vector: Vector) -> bool {
     let given = answer_to(question, vector);
     let number = number_for(question, vector.3);
     let same = given.number == number;
@@ -245,7 +248,7 @@ fn run_question(out: &mut [u8; 65536], label: &[u8], question: Question, vector:
 }
 
 // Asks a vector in each way, and prints its line.
-fn run(out: &mut [u8; 65536], vector: Vector) -> Right {
+fn run(out: &mut Output, vector: Vector) -> Right {
     print_vector(out, vector);
     let read = run_question(out, b": read ", Question::Read, vector);
     let copy = run_question(out, b"; copy ", Question::Copy, vector);
@@ -275,7 +278,7 @@ fn one_if_wrong(right: bool) -> u64
     if right { 0 } else { 1 }
 }
 
-fn run_all(out: &mut [u8; 65536]) -> Wrong {
+fn run_all(out: &mut Output) -> Wrong {
     let vectors = VECTORS;
     let mut reads: u64 = 0;
     let mut copies: u64 = 0;
@@ -309,7 +312,7 @@ fn is_none(wrong: Wrong) -> bool {
     wrong.formats == 0
 }
 
-fn run_program(out: &mut [u8; 65536]) {
+fn run_program(out: &mut Output) {
     let wrong = run_all(out);
     if is_none(wrong) {
         prints::text(out, b"all 5 examples are as document 01 gives them\n");
@@ -322,8 +325,8 @@ fn run_program(out: &mut [u8; 65536]) {
     }
 }
 
-fn main() {
-    let mut out = io::large_buffer();
+fn main(rt: HostRuntime) {
+    let mut out = Output::new(rt);
     run_program(&mut out);
     prints::flush(&mut out);
 }

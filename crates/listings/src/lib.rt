@@ -1,10 +1,13 @@
 // The lines of a script: whether each is right, what is wrong with one that isn't, and how one is
 // printed, with its comment. The lines printed are in docs/FORMATS.md.
+#![tactic(auto)]
+
 ghost use Rattle.std.specs.Prelude.{◌≤◌, length};
 
 use arguments::Name;
 use asks::Call;
 use digits::Fault;
+use prints::Output;
 
 // How many lines were passed, whether the last of them is a heading, and from which second on it is
 // said how far the run is.
@@ -30,7 +33,7 @@ fn fault_number(fault: Fault) -> usize {
     }
 }
 
-fn print_fault(out: &mut [u8; 65536], fault: Fault, word: &[u8]) {
+fn print_fault(out: &mut Output, fault: Fault, word: &[u8]) {
     let number = fault_number(fault);
     if 4 < number {
         prints::item(
@@ -54,7 +57,7 @@ fn print_fault(out: &mut [u8; 65536], fault: Fault, word: &[u8]) {
 }
 
 // Whether a line is right; where it isn't, prints its fault.
-fn is_right(out: &mut [u8; 65536], name: Name, number: u64, line: &[u8]) -> bool {
+fn is_right(out: &mut Output, name: Name, number: u64, line: &[u8]) -> bool {
     match asks::parse(line) {
         Call::Wrong(fault, place) => {
             arguments::fail(out, name, b" line ");
@@ -68,7 +71,7 @@ fn is_right(out: &mut [u8; 65536], name: Name, number: u64, line: &[u8]) -> bool
 
 // Whether each line of a script is right and one of them has a call; where it isn't so, prints the
 // line that says what is wrong first.
-pub fn check(out: &mut [u8; 65536], name: Name, text: &[u8]) -> bool {
+pub fn check(out: &mut Output, name: Name, text: &[u8]) -> bool {
     let mut at: usize = 0;
     let mut number: u64 = 0;
     let mut calls = false;
@@ -110,10 +113,21 @@ fn end_from(line: &[u8], start: usize) -> usize
     end
 }
 
+// Where the mark of a line's comment is, the line's end where it has none.
+fn mark_in(line: &[u8]) -> usize
+    ensures { result ≤ length line.now }
+{
+    for i in 0..line.len() {
+        if line[i] == b'#' {
+            return i;
+        }
+    }
+    line.len()
+}
+
 // The comment of a line from its mark on, nothing where it has none.
 fn comment_in(line: &[u8]) -> &[u8] {
-    let len = line.len();
-    let start = bytes::scan::find(line, 0, len, b'#');
+    let start = mark_in(line);
     let end = end_from(line, start);
     &line[start..end]
 }
@@ -135,14 +149,14 @@ fn blank_for_tab(byte: u8) -> u8 {
     if byte == b'\t' { b' ' } else { byte }
 }
 
-fn print_bytes(out: &mut [u8; 65536], line: &[u8]) {
+fn print_bytes(out: &mut Output, line: &[u8]) {
     for i in 0..line.len() {
         prints::escaped_byte(out, blank_for_tab(line[i]));
     }
 }
 
 // Prints the comment of a call, if it has one.
-fn print_comment(out: &mut [u8; 65536], comment: &[u8]) {
+fn print_comment(out: &mut Output, comment: &[u8]) {
     if 0 < comment.len() {
         prints::text(out, b"  ");
     }
@@ -150,19 +164,19 @@ fn print_comment(out: &mut [u8; 65536], comment: &[u8]) {
 }
 
 // Prints the call of a line with its number, tabs as blanks, and its comment.
-fn print_call(out: &mut [u8; 65536], number: u64, line: &[u8], comment: &[u8]) {
+fn print_call(out: &mut Output, number: u64, line: &[u8], comment: &[u8]) {
     prints::filled(out, b"script line #: ", &[number]);
     print_bytes(out, line);
     print_comment(out, comment);
 }
 
-fn print_whole(out: &mut [u8; 65536], comment: &[u8]) {
+fn print_whole(out: &mut Output, comment: &[u8]) {
     prints::escaped(out, comment, comment.len());
     prints::text(out, b"\n");
 }
 
 // Prints a comment as a heading, after an empty line unless it goes on with one.
-fn print_heading(out: &mut [u8; 65536], comment: &[u8], goes_on: bool) {
+fn print_heading(out: &mut Output, comment: &[u8], goes_on: bool) {
     if !goes_on {
         prints::text(out, b"\n");
     }
@@ -170,13 +184,7 @@ fn print_heading(out: &mut [u8; 65536], comment: &[u8], goes_on: bool) {
 }
 
 // Prints a line of a script: a call, or a heading. Says whether it is a heading.
-fn print_any(
-    out: &mut [u8; 65536],
-    number: u64,
-    line: &[u8],
-    comment: &[u8],
-    goes_on: bool,
-) -> bool {
+fn print_any(out: &mut Output, number: u64, line: &[u8], comment: &[u8], goes_on: bool) -> bool {
     if 0 < line.len() {
         print_call(out, number, line, comment);
         return false;
@@ -200,7 +208,7 @@ impl Listing {
 
 // Counts a line of a script unless steps of the one before it are left, and says how far a long run
 // is.
-pub fn count(listing: Listing, left: u32) -> Listing {
+pub fn count(rt: HostRuntime, listing: Listing, left: u32) -> Listing {
     if 0 < left {
         return listing;
     }
@@ -208,13 +216,13 @@ pub fn count(listing: Listing, left: u32) -> Listing {
     Listing {
         number: number,
         heading: listing.heading,
-        due: prints::progress(number, listing.due),
+        due: prints::progress(rt, number, listing.due),
     }
 }
 
 // Prints and counts the line of a script at a place.
-pub fn print_next(out: &mut [u8; 65536], listing: Listing, text: &[u8], at: usize) -> Listing {
-    let next = count(listing, 0);
+pub fn print_next(out: &mut Output, listing: Listing, text: &[u8], at: usize) -> Listing {
+    let next = count(out.runtime(), listing, 0);
     let heading = print_any(
         out,
         next.number,
@@ -243,7 +251,7 @@ pub fn calls_in(text: &[u8]) -> u64 {
 }
 
 // Prints the line that begins at a place with its number.
-pub fn print_line_at(out: &mut [u8; 65536], text: &[u8], place: usize) {
+pub fn print_line_at(out: &mut Output, text: &[u8], place: usize) {
     let mut at: usize = 0;
     let mut number: u64 = 1;
     while at < text.len() {

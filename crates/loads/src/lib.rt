@@ -2,10 +2,25 @@
 // run prints where one of them is wrong. The lines are in docs/FORMATS.md.
 //
 // No contract can say what is read or printed. The counts are those of bytes at a buffer's start.
+#![tactic(auto)]
+
 ghost use Rattle.std.specs.Prelude.{◌≡◌, ◌≤◌, length};
 
-use arguments::{Name, Place};
+use arguments::{Name, Opened, Place};
+use prints::Output;
 use requests::Check;
+use std::io;
+use std::io::Read;
+
+// The system's numbers for errors: no such file, may not be read, and a directory.
+const NO_FILE: i32 = 2;
+
+const NO_ACCESS: i32 = 13;
+
+const IS_DIRECTORY: i32 = 21;
+
+// The number of a call that signals cut short again and again.
+const CUT_SHORT: i32 = 4;
 
 // How many bytes of a file were read, or the number of the error.
 #[derive(Clone, Copy)]
@@ -41,7 +56,7 @@ pub fn page_buffer() -> [u8; 4097]
 }
 
 // Ends a line, with the byte of its file from which on a page is.
-fn print_part(out: &mut [u8; 65536], one: bool, at: u32) {
+fn print_part(out: &mut Output, one: bool, at: u32) {
     if one {
         prints::filled(out, b" from byte # on\n", &[at as u64]);
     } else {
@@ -49,14 +64,14 @@ fn print_part(out: &mut [u8; 65536], one: bool, at: u32) {
     }
 }
 
-fn print_page(out: &mut [u8; 65536], side: &[u8], name: Name, one: bool, at: u32) {
+fn print_page(out: &mut Output, side: &[u8], name: Name, one: bool, at: u32) {
     prints::text(out, side);
     arguments::print_name(out, name);
     print_part(out, one, at);
 }
 
 // Prints where two pages come from, a line each, and P, with no line end.
-pub fn heading(out: &mut [u8; 65536], source: Source, page: usize) {
+pub fn heading(out: &mut Output, source: Source, page: usize) {
     let left = source.left;
     let right = source.right;
     print_page(out, b"LEFT  ", left, source.one, source.left_at);
@@ -65,16 +80,22 @@ pub fn heading(out: &mut [u8; 65536], source: Source, page: usize) {
 }
 
 // ---- files
+// The system's number for an error.
+fn number_of(error: io::Error) -> i32 {
+    match error.raw_os_error() {
+        Some(number) => number,
+        None => CUT_SHORT,
+    }
+}
+
 // Reads from an open file until the buffer is full or the file ends.
-fn fill(fd: i32, into: &mut [u8]) -> Loaded {
+fn fill(file: &mut Opened, into: &mut [u8]) -> Loaded {
     let mut done: usize = 0;
     while done < into.len() {
-        let rest = &mut into[done..];
-        let got = libc::read(fd, rest);
-        let count = io::count(got, rest);
-        if got < 0 {
-            return Loaded::Failed(os::errno());
-        }
+        let count = match file.read(&mut into[done..]) {
+            Ok(count) => count,
+            Err(error) => return Loaded::Failed(number_of(error)),
+        };
         if count == 0 {
             return Loaded::Read(done);
         }
@@ -84,14 +105,11 @@ fn fill(fd: i32, into: &mut [u8]) -> Loaded {
 }
 
 // Reads the file of a name into a buffer, up to the buffer's length.
-fn load(name: Name, into: &mut [u8]) -> Loaded {
-    let fd = arguments::open(name);
-    if fd < 0 {
-        return Loaded::Failed(os::errno());
+fn load(rt: HostRuntime, name: Name, into: &mut [u8]) -> Loaded {
+    match arguments::open(rt, name) {
+        Ok(mut file) => fill(&mut file, into),
+        Err(error) => Loaded::Failed(number_of(error)),
     }
-    let got = fill(fd, into);
-    libc::close(fd);
-    got
 }
 
 // An error as a number to print; none is below 0.
@@ -118,7 +136,7 @@ fn text_of(error: u64) -> usize {
 }
 
 // Prints the text of an error that has one.
-fn say_text(out: &mut [u8; 65536], error: u64) {
+fn say_text(out: &mut Output, error: u64) {
     prints::item(
         out,
         b": not permitted|: the device failed|: no such device|: nothing to read yet|: no memory is left|: a part of the name is no directory|: not a name or not readable|: too many open files|: file name too long|: too many links|: the file is too large",
@@ -126,12 +144,12 @@ fn say_text(out: &mut [u8; 65536], error: u64) {
     );
 }
 
-fn say_error(out: &mut [u8; 65536], error: i32) {
-    if error == libc::ENOENT {
+fn say_error(out: &mut Output, error: i32) {
+    if error == NO_FILE {
         prints::text(out, b"no such file");
-    } else if error == libc::EISDIR {
+    } else if error == IS_DIRECTORY {
         prints::text(out, b"it is a directory");
-    } else if error == libc::EACCES {
+    } else if error == NO_ACCESS {
         prints::text(out, b"it may not be read");
     } else {
         prints::labelled(out, b"reading it failed with error ", natural(error));
@@ -140,7 +158,7 @@ fn say_error(out: &mut [u8; 65536], error: i32) {
 }
 
 // Prints how a sample that isn't there can be found.
-fn say_where(out: &mut [u8; 65536], name: Name) {
+fn say_where(out: &mut Output, name: Name) {
     match name {
         Name::Argument(_) => {}
         _ => prints::text(
@@ -151,7 +169,7 @@ fn say_where(out: &mut [u8; 65536], name: Name) {
 }
 
 // Prints the line of a file that isn't read.
-fn say_failed(out: &mut [u8; 65536], name: Name, error: i32) {
+fn say_failed(out: &mut Output, name: Name, error: i32) {
     arguments::fail(out, name, b": ");
     say_error(out, error);
     say_where(out, name);
@@ -159,8 +177,8 @@ fn say_failed(out: &mut [u8; 65536], name: Name, error: i32) {
 }
 
 // Reads the file of a name into a buffer; where it isn't read, prints the line that says why.
-pub fn load_file(out: &mut [u8; 65536], name: Name, into: &mut [u8]) -> Input {
-    match load(name, into) {
+pub fn load_file(out: &mut Output, name: Name, into: &mut [u8]) -> Input {
+    match load(out.runtime(), name, into) {
         Loaded::Read(count) => Input::Bytes(count),
         Loaded::Failed(error) => {
             say_failed(out, name, error);
@@ -171,7 +189,7 @@ pub fn load_file(out: &mut [u8; 65536], name: Name, into: &mut [u8]) -> Input {
 
 // ---- two files
 // Prints a number of bytes.
-fn say_bytes(out: &mut [u8; 65536], count: u64) {
+fn say_bytes(out: &mut Output, count: u64) {
     if count == 1 {
         prints::text(out, b"1 byte");
     } else {
@@ -179,7 +197,7 @@ fn say_bytes(out: &mut [u8; 65536], count: u64) {
     }
 }
 
-fn say_length(out: &mut [u8; 65536], name: Name, len: usize) {
+fn say_length(out: &mut Output, name: Name, len: usize) {
     arguments::print_name(out, name);
     prints::text(out, b" has ");
     if pages::MAX_PAGE < len {
@@ -201,7 +219,7 @@ fn fault_of(left: usize, right: usize) -> usize {
 }
 
 // Prints which fault lengths of number 1 have.
-fn say_fault(out: &mut [u8; 65536], left: usize, right: usize) {
+fn say_fault(out: &mut Output, left: usize, right: usize) {
     prints::item(
         out,
         b": the pages differ in length\n|: P is above 4096\n|: P is odd\n|: P is below 8\n",
@@ -211,7 +229,7 @@ fn say_fault(out: &mut [u8; 65536], left: usize, right: usize) {
 
 // Whether the lengths of two pages are legal; where they aren't, prints the line of number 1. A
 // length above 4096 counts as one that isn't known.
-fn pages_right(out: &mut [u8; 65536], source: Source, left: usize, right: usize) -> bool {
+fn pages_right(out: &mut Output, source: Source, left: usize, right: usize) -> bool {
     match requests::check_pages(left, right) {
         Check::Legal => true,
         Check::Refused(_) => {
@@ -227,7 +245,7 @@ fn pages_right(out: &mut [u8; 65536], source: Source, left: usize, right: usize)
     }
 }
 
-fn load_two(out: &mut [u8; 65536], source: Source, left: &mut [u8], right: &mut [u8]) -> Input {
+fn load_two(out: &mut Output, source: Source, left: &mut [u8], right: &mut [u8]) -> Input {
     let left_name = source.left;
     let right_name = source.right;
     let Input::Bytes(page) = load_file(out, left_name, left) else {
@@ -262,17 +280,22 @@ fn keep(bytes: &[u8], at: usize, start: u32, part: &mut [u8]) {
 }
 
 // Reads a file up to a byte or its end, keeps two parts of it, and gives how many bytes were read.
-fn fill_parts(fd: i32, source: Source, end: usize, left: &mut [u8], right: &mut [u8]) -> Loaded
+fn fill_parts(
+    file: &mut Opened,
+    source: Source,
+    end: usize,
+    left: &mut [u8],
+    right: &mut [u8],
+) -> Loaded
     requires { end ≤ 8589934590 }
 {
-    let mut chunk = io::buffer();
+    let mut chunk = [0u8; 4096];
     let mut done: usize = 0;
     while done < end {
-        let got = libc::read(fd, &mut chunk);
-        let count = io::count(got, &chunk);
-        if got < 0 {
-            return Loaded::Failed(os::errno());
-        }
+        let count = match file.read(&mut chunk) {
+            Ok(count) => count,
+            Err(error) => return Loaded::Failed(number_of(error)),
+        };
         if count == 0 {
             return Loaded::Read(done);
         }
@@ -299,23 +322,19 @@ fn last_end(a: usize, b: usize) -> usize
 }
 
 // Reads both pages from one file.
-fn load_parts(source: Source, left: &mut [u8], right: &mut [u8]) -> Loaded {
-    let name = source.left;
-    let fd = arguments::open(name);
-    if fd < 0 {
-        return Loaded::Failed(os::errno());
-    }
+fn load_parts(rt: HostRuntime, source: Source, left: &mut [u8], right: &mut [u8]) -> Loaded {
     let end = last_end(
         part_end(source.left_at, source.length),
         part_end(source.right_at, source.length),
     );
-    let got = fill_parts(fd, source, end, left, right);
-    libc::close(fd);
-    got
+    match arguments::open(rt, source.left) {
+        Ok(mut file) => fill_parts(&mut file, source, end, left, right),
+        Err(error) => Loaded::Failed(number_of(error)),
+    }
 }
 
 // Prints of a part of a file that it isn't all there.
-fn say_past(out: &mut [u8; 65536], side: &[u8], length: u32, at: u32) {
+fn say_past(out: &mut Output, side: &[u8], length: u32, at: u32) {
     prints::text(out, b": ");
     prints::text(out, side);
     prints::filled(
@@ -326,7 +345,7 @@ fn say_past(out: &mut [u8; 65536], side: &[u8], length: u32, at: u32) {
 }
 
 // Whether a part ends within the bytes of a file; where it doesn't, prints the line that says so.
-fn is_within(out: &mut [u8; 65536], source: Source, size: usize, side: &[u8], at: u32) -> bool {
+fn is_within(out: &mut Output, source: Source, size: usize, side: &[u8], at: u32) -> bool {
     if part_end(at, source.length) <= size {
         return true;
     }
@@ -337,7 +356,7 @@ fn is_within(out: &mut [u8; 65536], source: Source, size: usize, side: &[u8], at
     false
 }
 
-fn check_parts(out: &mut [u8; 65536], source: Source, size: usize) -> Input {
+fn check_parts(out: &mut Output, source: Source, size: usize) -> Input {
     if !is_within(out, source, size, b"LEFT", source.left_at) {
         return Input::Wrong;
     }
@@ -347,8 +366,8 @@ fn check_parts(out: &mut [u8; 65536], source: Source, size: usize) -> Input {
     Input::Bytes(source.length as usize)
 }
 
-fn load_one(out: &mut [u8; 65536], source: Source, left: &mut [u8], right: &mut [u8]) -> Input {
-    match load_parts(source, left, right) {
+fn load_one(out: &mut Output, source: Source, left: &mut [u8], right: &mut [u8]) -> Input {
+    match load_parts(out.runtime(), source, left, right) {
         Loaded::Read(size) => check_parts(out, source, size),
         Loaded::Failed(error) => {
             let name = source.left;
@@ -359,7 +378,7 @@ fn load_one(out: &mut [u8; 65536], source: Source, left: &mut [u8], right: &mut 
 }
 
 // Whether LENGTH is a legal length of a page; where it isn't, prints the line of number 1.
-fn is_length(out: &mut [u8; 65536], length: u32) -> bool {
+fn is_length(out: &mut Output, length: u32) -> bool {
     let page = length as usize;
     match requests::check_pages(page, page) {
         Check::Legal => true,
@@ -374,12 +393,7 @@ fn is_length(out: &mut [u8; 65536], length: u32) -> bool {
 // Reads two pages into buffers and gives P; where one isn't read or the lengths aren't legal,
 // prints the line that says so. A file that is too long is seen where its buffer has more than
 // 4,096 bytes.
-pub fn load_pages(
-    out: &mut [u8; 65536],
-    source: Source,
-    left: &mut [u8],
-    right: &mut [u8],
-) -> Input {
+pub fn load_pages(out: &mut Output, source: Source, left: &mut [u8], right: &mut [u8]) -> Input {
     if source.one {
         return load_one(out, source, left, right);
     }
@@ -395,13 +409,7 @@ pub enum Sourced {
 }
 
 // Where two pages of a length come from that are in one file.
-fn one_source(
-    out: &mut [u8; 65536],
-    at: usize,
-    left_at: u32,
-    right_at: u32,
-    length: u32,
-) -> Sourced {
+fn one_source(out: &mut Output, at: usize, left_at: u32, right_at: u32, length: u32) -> Sourced {
     if !is_length(out, length) {
         return Sourced::Wrong;
     }
@@ -416,7 +424,7 @@ fn one_source(
 }
 
 // Where two pages of one file come from, whose name is an argument, with three numbers behind it.
-fn one_file(out: &mut [u8; 65536], at: usize) -> Sourced {
+fn one_file(out: &mut Output, at: usize) -> Sourced {
     let Place::At(left_at) = arguments::number_at(
         out,
         b"LEFT-AT",
@@ -442,7 +450,7 @@ fn one_file(out: &mut [u8; 65536], at: usize) -> Sourced {
 }
 
 // Where two pages come from that arguments from one on name.
-pub fn source_from(out: &mut [u8; 65536], one: bool, at: usize) -> Sourced {
+pub fn source_from(out: &mut Output, one: bool, at: usize) -> Sourced {
     if one {
         return one_file(out, at);
     }

@@ -1,18 +1,42 @@
 // Printing to standard output: text, blanks, numbers in decimal (after text, or right-aligned) and
 // in hexadecimal, a byte as a character, and bytes from outside, escaped.
 //
-// What is printed is gathered in a buffer that the caller lends, and written in one piece where the
-// next text doesn't fit, and by `flush`. The buffer may hold any bytes: its first three say how many
-// stand after them, so one of 00 holds nothing. No contract can say what is printed, so none is here. A
-// write that fails is passed over.
+// What is printed is gathered in an `Output`, and written in one piece where the next text doesn't fit,
+// and by `flush`. Its buffer may hold any bytes: the first three say how many stand after them, so one
+// of 00 holds nothing. No contract can say what is printed, so none is here. A write that fails is passed
+// over.
+#![tactic(auto)]
+
 ghost use Rattle.std.specs.Prelude.{◌≤◌, length};
 
-use libc::{STDERR_FILENO, STDOUT_FILENO};
+use std::time::CpuClock;
 
 // How many bytes the buffer of a program has, and how many of them stand before what is gathered.
 const SIZE: usize = 65536;
 
 const HEAD: usize = 3;
+
+// What a program prints to, and what is gathered for it.
+#[derive(Drop)]
+pub struct Output {
+    rt: HostRuntime,
+    buffer: [u8; SIZE],
+}
+
+impl Output {
+    // With nothing gathered.
+    pub fn new(rt: HostRuntime) -> Output {
+        Output {
+            rt: rt,
+            buffer: [0; SIZE],
+        }
+    }
+
+    // The runtime that it prints by.
+    pub fn runtime(&self) -> HostRuntime {
+        self.rt
+    }
+}
 
 // ---- the buffer
 fn wide(b: u8) -> usize
@@ -51,8 +75,8 @@ fn set_end(out: &mut [u8], end: usize) {
     set(out, 2, (count / 65536 % 256) as u8);
 }
 
-// What is gathered.
-pub fn gathered(out: &[u8]) -> &[u8] {
+// What is gathered in a buffer.
+fn gathered_in(out: &[u8]) -> &[u8] {
     let end = end(out);
     if end < HEAD {
         return &out[0..0];
@@ -60,14 +84,24 @@ pub fn gathered(out: &[u8]) -> &[u8] {
     &out[HEAD..end]
 }
 
-fn flush_in(out: &mut [u8]) {
-    io::write_all(STDOUT_FILENO, gathered(out));
+// What is gathered.
+pub fn gathered(out: &Output) -> &[u8] {
+    gathered_in(&out.buffer)
+}
+
+// Writes bytes to standard output.
+fn write(rt: HostRuntime, t: &[u8]) {
+    let _ = rt.write_all(t);
+}
+
+fn flush_in(rt: HostRuntime, out: &mut [u8]) {
+    write(rt, gathered_in(out));
     set_end(out, HEAD);
 }
 
 // Writes what is gathered.
-pub fn flush(out: &mut [u8; SIZE]) {
-    flush_in(out);
+pub fn flush(out: &mut Output) {
+    flush_in(out.rt, &mut out.buffer);
 }
 
 // Puts text behind what is gathered, and says whether it fits.
@@ -78,31 +112,31 @@ fn put(out: &mut [u8], t: &[u8]) -> bool {
         return false;
     }
     let to = from + t.len();
-    bytes::copy(t, &mut out[from..to]);
+    out[from..to].copy_from_slice(t);
     set_end(out, to);
     true
 }
 
 // ---- text and numbers
-fn text_in(out: &mut [u8], t: &[u8]) {
+fn text_in(rt: HostRuntime, out: &mut [u8], t: &[u8]) {
     if put(out, t) {
         return;
     }
-    flush_in(out);
+    flush_in(rt, out);
     if put(out, t) {
         return;
     }
-    io::write_all(STDOUT_FILENO, t);
+    write(rt, t);
 }
 
 // Prints bytes as they are.
-pub fn text(out: &mut [u8; SIZE], t: &[u8]) {
-    text_in(out, t);
+pub fn text(out: &mut Output, t: &[u8]) {
+    text_in(out.rt, &mut out.buffer, t);
 }
 
 // Prints a byte of items unless it parts two or belongs to another than is asked for, and gives the
 // item that the next byte belongs to.
-fn item_byte(out: &mut [u8; SIZE], b: u8, item: usize, asked: usize) -> usize {
+fn item_byte(out: &mut Output, b: u8, item: usize, asked: usize) -> usize {
     if b == b'|' {
         return std::num::wrapping_add_usize(item, 1);
     }
@@ -113,7 +147,7 @@ fn item_byte(out: &mut [u8; SIZE], b: u8, item: usize, asked: usize) -> usize {
 }
 
 // Prints one of several texts, which are parted by bars: the first is number 0.
-pub fn item(out: &mut [u8; SIZE], items: &[u8], asked: usize) {
+pub fn item(out: &mut Output, items: &[u8], asked: usize) {
     let mut item: usize = 0;
     for i in 0..items.len() {
         item = item_byte(out, items[i], item, asked);
@@ -121,34 +155,34 @@ pub fn item(out: &mut [u8; SIZE], items: &[u8], asked: usize) {
 }
 
 // Prints a number of blanks.
-pub fn blanks(out: &mut [u8; SIZE], count: usize) {
+pub fn blanks(out: &mut Output, count: usize) {
     for _ in 0..count {
         text(out, b" ");
     }
 }
 
 // Prints a number in decimal.
-pub fn number(out: &mut [u8; SIZE], n: u64) {
+pub fn number(out: &mut Output, n: u64) {
     let mut space = [0u8; 20];
     let count = io::decimal(n, &mut space);
     text(out, &space[..count]);
 }
 
 // Prints text and a number in decimal after it.
-pub fn labelled(out: &mut [u8; SIZE], t: &[u8], n: u64) {
+pub fn labelled(out: &mut Output, t: &[u8], n: u64) {
     text(out, t);
     number(out, n);
 }
 
 // Prints blanks before a text of a length up to a width.
-fn pad(out: &mut [u8; SIZE], len: usize, width: usize) {
+fn pad(out: &mut Output, len: usize, width: usize) {
     if len < width {
         blanks(out, width - len);
     }
 }
 
 // Prints a number in decimal with blanks before it up to a width.
-pub fn padded(out: &mut [u8; SIZE], n: u64, width: usize) {
+pub fn padded(out: &mut Output, n: u64, width: usize) {
     let mut space = [0u8; 20];
     let count = io::decimal(n, &mut space);
     pad(out, count, width);
@@ -161,7 +195,7 @@ fn capital(digit: u8) -> u8 {
 }
 
 // Prints digits, small letters as capital ones.
-fn capitals(out: &mut [u8; SIZE], t: &mut [u8]) {
+fn capitals(out: &mut Output, t: &mut [u8]) {
     for i in 0..t.len() {
         t[i] = capital(t[i]);
     }
@@ -170,7 +204,7 @@ fn capitals(out: &mut [u8; SIZE], t: &mut [u8]) {
 
 // Prints a number in hexadecimal, with capital letters and zeros before it up to a number of
 // digits.
-pub fn hex(out: &mut [u8; SIZE], n: u64, digits: usize) {
+pub fn hex(out: &mut Output, n: u64, digits: usize) {
     let mut space = [0u8; 16];
     let count = io::hex(n, digits, &mut space);
     capitals(out, &mut space[..count]);
@@ -183,7 +217,7 @@ fn number_at(numbers: &[u64], at: usize) -> u64 {
 }
 
 // Prints a byte of a template, or the number that it stands for, and gives the number that comes next.
-fn filled_byte(out: &mut [u8; SIZE], b: u8, numbers: &[u64], next: usize) -> usize {
+fn filled_byte(out: &mut Output, b: u8, numbers: &[u64], next: usize) -> usize {
     let n = number_at(numbers, next);
     match b {
         b'#' => number(out, n),
@@ -200,7 +234,7 @@ fn filled_byte(out: &mut [u8; SIZE], b: u8, numbers: &[u64], next: usize) -> usi
 
 // Prints a template with numbers in their places, one after another: `#` in decimal; `%`, `$` and `@` in
 // hexadecimal, with two, four and eight digits.
-pub fn filled(out: &mut [u8; SIZE], template: &[u8], numbers: &[u64]) {
+pub fn filled(out: &mut Output, template: &[u8], numbers: &[u64]) {
     let mut next: usize = 0;
     for i in 0..template.len() {
         next = filled_byte(out, template[i], numbers, next);
@@ -216,7 +250,7 @@ fn is_printable(b: u8) -> bool {
 }
 
 // Prints a byte as a character, a dot where it isn't printable ASCII.
-pub fn character(out: &mut [u8; SIZE], b: u8) {
+pub fn character(out: &mut Output, b: u8) {
     if is_printable(b) {
         text(out, &[b]);
     } else {
@@ -225,7 +259,7 @@ pub fn character(out: &mut [u8; SIZE], b: u8) {
 }
 
 // Prints a byte as a character, `\xHH` where it isn't printable ASCII, and `\\` for a backslash.
-pub fn escaped_byte(out: &mut [u8; SIZE], b: u8) {
+pub fn escaped_byte(out: &mut Output, b: u8) {
     if b == b'\\' {
         text(out, b"\\\\");
     } else if is_printable(b) {
@@ -237,14 +271,14 @@ pub fn escaped_byte(out: &mut [u8; SIZE], b: u8) {
 }
 
 // Prints a byte of bytes from outside if it is one of the first.
-fn escaped_at(out: &mut [u8; SIZE], b: u8, at: usize, most: usize) {
+fn escaped_at(out: &mut Output, b: u8, at: usize, most: usize) {
     if at < most {
         escaped_byte(out, b);
     }
 }
 
 // Prints bytes from outside, at most so many, escaped.
-pub fn escaped(out: &mut [u8; SIZE], t: &[u8], most: usize) {
+pub fn escaped(out: &mut Output, t: &[u8], most: usize) {
     for i in 0..t.len() {
         escaped_at(out, t[i], i, most);
     }
@@ -252,29 +286,25 @@ pub fn escaped(out: &mut [u8; SIZE], t: &[u8], most: usize) {
 
 // ---- the version, and how long a run takes
 // Prints the version of the project, which include/fretgalaxy.h has too.
-pub fn version(out: &mut [u8; SIZE]) {
+pub fn version(out: &mut Output) {
     text(out, b"0.6.0");
 }
 
-// A number as one that isn't below 0.
-fn natural(n: i64) -> u64 {
-    if n > 0 { n as u64 } else { 0 }
-}
-
-// How many seconds of the processor's time the run has taken.
-fn seconds() -> u64 {
-    natural(libc::clock()) / 1000000
+// How many seconds of the processor's time the run has taken, 0 where that isn't known.
+fn seconds(rt: HostRuntime) -> u64 {
+    match rt.process_cpu_time() {
+        Ok(time) => time.as_secs(),
+        Err(_) => 0,
+    }
 }
 
 // Says on standard error at which line of a script a run is, every two seconds, and gives the second
 // from which on it is said again.
-pub fn progress(line: u64, due: u64) -> u64 {
-    let now = seconds();
+pub fn progress(rt: HostRuntime, line: u64, due: u64) -> u64 {
+    let now = seconds(rt);
     if now < due {
         return due;
     }
-    io::write_all(STDERR_FILENO, b"replay: at script line ");
-    io::print_decimal(STDERR_FILENO, line);
-    io::write_all(STDERR_FILENO, b"\n");
-    std::num::wrapping_add_u64(now, 2)
+    let _ = eprintln!(rt; "replay: at script line {line}");
+    now.wrapping_add(2)
 }

@@ -1,11 +1,14 @@
 // Replays a script of calls on two dumps, and prints what the board answers and what its pages then
 // hold; or cuts the script's last save or format after each number of its steps. What it reads and
 // prints is in docs/FORMATS.md.
+#![tactic(auto)]
+
 ghost use Rattle.std.specs.Prelude.{◌≤◌, ◌≡◌, length};
 
 use arguments::{Name, Word};
 use copies::first;
 use loads::{Input, Source, Sourced};
+use prints::Output;
 
 // Which lines are asked for: one for a run of image cells, all, or the cuts.
 #[derive(Clone, Copy)]
@@ -17,7 +20,7 @@ enum Mode {
 
 // ---- the run
 fn run<'a>(
-    out: &mut [u8; 65536],
+    out: &mut Output,
     source: Source,
     script: Name,
     text: &[u8],
@@ -59,7 +62,7 @@ fn script_buffer() -> [u8; 262144]
 }
 
 // Loads a script, which has fewer bytes than the buffer, and whose lines are right.
-fn load_script(out: &mut [u8; 65536], name: Name, space: &mut [u8]) -> Input {
+fn load_script(out: &mut Output, name: Name, space: &mut [u8]) -> Input {
     let Input::Bytes(size) = loads::load_file(out, name, space) else {
         return Input::Wrong;
     };
@@ -75,7 +78,7 @@ fn load_script(out: &mut [u8; 65536], name: Name, space: &mut [u8]) -> Input {
 
 // Loads the script and runs it on the pages.
 fn run_pages<'a>(
-    out: &mut [u8; 65536],
+    out: &mut Output,
     source: Source,
     script: Name,
     left: &'a [u8],
@@ -97,7 +100,7 @@ fn run_pages<'a>(
     );
 }
 
-fn run_files(out: &mut [u8; 65536], source: Source, script: Name, mode: Mode) {
+fn run_files(out: &mut Output, source: Source, script: Name, mode: Mode) {
     let mut left = loads::page_buffer();
     let mut right = loads::page_buffer();
     let Input::Bytes(page) = loads::load_pages(out, source, &mut left, &mut right) else {
@@ -115,7 +118,7 @@ fn run_files(out: &mut [u8; 65536], source: Source, script: Name, mode: Mode) {
 
 // ---- the arguments
 // Runs with the pages that the arguments from one on name, and a script's name.
-fn run_named(out: &mut [u8; 65536], one: bool, at: usize, script: usize, mode: Mode) {
+fn run_named(out: &mut Output, one: bool, at: usize, script: usize, mode: Mode) {
     if !arguments::names_right(out, one, at, script) {
         return;
     }
@@ -125,14 +128,14 @@ fn run_named(out: &mut [u8; 65536], one: bool, at: usize, script: usize, mode: M
     }
 }
 
-fn usage(out: &mut [u8; 65536]) {
+fn usage(out: &mut Output) {
     prints::text(
         out,
         b"failed: usage: replay [--all | --cuts] [LEFT RIGHT SCRIPT], or replay [--all | --cuts] --one FILE LEFT-AT RIGHT-AT LENGTH SCRIPT\n",
     );
 }
 
-fn help(out: &mut [u8; 65536]) {
+fn help(out: &mut Output) {
     prints::text(
         out,
         b"replay [--all | --cuts] [LEFT RIGHT SCRIPT]\nreplay [--all | --cuts] --one FILE LEFT-AT RIGHT-AT LENGTH SCRIPT\n  a script of calls and power cuts on copies of two dumps of pages\n",
@@ -148,7 +151,7 @@ fn help(out: &mut [u8; 65536]) {
 }
 
 // Runs with files from an argument on, or with the sample.
-fn run_plain(out: &mut [u8; 65536], at: usize, count: usize, mode: Mode)
+fn run_plain(out: &mut Output, at: usize, count: usize, mode: Mode)
     requires { at ≤ 2 }
 {
     if count <= at {
@@ -161,10 +164,10 @@ fn run_plain(out: &mut [u8; 65536], at: usize, count: usize, mode: Mode)
 }
 
 // Runs with the arguments from one on, of so many.
-fn run_from(out: &mut [u8; 65536], at: usize, count: usize, mode: Mode)
+fn run_from(out: &mut Output, at: usize, count: usize, mode: Mode)
     requires { at ≤ 2 }
 {
-    match arguments::option(at) {
+    match arguments::option(out.runtime(), at) {
         Word::Plain => run_plain(out, at, count, mode),
         Word::One => {
             if count == at + 6 {
@@ -177,9 +180,9 @@ fn run_from(out: &mut [u8; 65536], at: usize, count: usize, mode: Mode)
     }
 }
 
-fn run_arguments(out: &mut [u8; 65536]) {
-    let count = os::arg_count();
-    match arguments::option(1) {
+fn run_arguments(out: &mut Output) {
+    let count = arguments::count(out.runtime());
+    match arguments::option(out.runtime(), 1) {
         Word::Help => help(out),
         Word::Version => arguments::print_version(out),
         Word::Crowded => usage(out),
@@ -189,8 +192,8 @@ fn run_arguments(out: &mut [u8; 65536]) {
     }
 }
 
-fn main() {
-    let mut out = io::large_buffer();
+fn main(rt: HostRuntime) {
+    let mut out = Output::new(rt);
     run_arguments(&mut out);
     prints::flush(&mut out);
 }

@@ -1,6 +1,8 @@
 // Shows what two dumps of pages hold: their words, their line, the steps that a save from there
 // takes, what the page that isn't live holds, and the image of the live page, or of both where none is.
 // As text, or as one JSON object. What it prints is in docs/FORMATS.md.
+#![tactic(auto)]
+
 ghost use Rattle.std.specs.Prelude.{◌≤◌};
 
 use arguments::Word;
@@ -8,6 +10,7 @@ use copies::first;
 use loads::{Input, Source, Sourced};
 use pages::{ImageOffset, Live, PageOffset, Side};
 use plans::{Entry, Spot};
+use prints::Output;
 use walks::{Begun, Walk};
 
 // What is to be noted of two pages.
@@ -72,50 +75,50 @@ fn is_same(left: &[u8], right: &[u8]) -> bool {
 }
 
 // Whether two parts of one length begin at one byte of one file.
-fn is_one(source: Source) -> bool {
+fn is_one(rt: HostRuntime, source: Source) -> bool {
     let left = source.left;
     let right = source.right;
     if source.one {
         return source.left_at == source.right_at;
     }
-    arguments::is_one_name(left, right)
+    arguments::is_one_name(rt, left, right)
 }
 
 fn distance(a: u32, b: u32) -> u32 {
     if a < b { b - a } else { a - b }
 }
 
-fn is_shared(source: Source) -> bool {
+fn is_shared(rt: HostRuntime, source: Source) -> bool {
     if !source.one {
         return false;
     }
-    if is_one(source) {
+    if is_one(rt, source) {
         return false;
     }
     distance(source.left_at, source.right_at) < source.length
 }
 
-fn is_same_only(source: Source, left: &[u8], right: &[u8]) -> bool {
-    if is_one(source) {
+fn is_same_only(rt: HostRuntime, source: Source, left: &[u8], right: &[u8]) -> bool {
+    if is_one(rt, source) {
         return false;
     }
-    if is_shared(source) {
+    if is_shared(rt, source) {
         return false;
     }
     is_same(left, right)
 }
 
-fn notes_of(source: Source, left: &[u8], right: &[u8]) -> Notes {
+fn notes_of(rt: HostRuntime, source: Source, left: &[u8], right: &[u8]) -> Notes {
     Notes {
-        one: is_one(source),
-        shared: is_shared(source),
-        same: is_same_only(source, left, right),
+        one: is_one(rt, source),
+        shared: is_shared(rt, source),
+        same: is_same_only(rt, source, left, right),
         swapped: swapped_line(left, right),
     }
 }
 
 // ---- the words and the line
-fn print_sizes(out: &mut [u8; 65536], image: &[u8]) {
+fn print_sizes(out: &mut Output, image: &[u8]) {
     let size = image.len() as u64;
     prints::filled(
         out,
@@ -124,7 +127,7 @@ fn print_sizes(out: &mut [u8; 65536], image: &[u8]) {
     );
 }
 
-fn print_word(out: &mut [u8; 65536], label: &[u8], page: &[u8]) {
+fn print_word(out: &mut Output, label: &[u8], page: &[u8]) {
     let word = pages::word(page) as u64;
     prints::text(out, label);
     prints::filled(
@@ -141,7 +144,7 @@ fn print_word(out: &mut [u8; 65536], label: &[u8], page: &[u8]) {
 }
 
 // Prints of pages of which none is live whether both are erased.
-fn print_none(out: &mut [u8; 65536], erased: bool) {
+fn print_none(out: &mut Output, erased: bool) {
     if erased {
         prints::text(out, b", a read is answered 5\nboth pages are erased\n");
     } else {
@@ -153,7 +156,7 @@ fn print_none(out: &mut [u8; 65536], erased: bool) {
 }
 
 // Ends the line of pages of which one is live, and prints what the other holds.
-fn print_other(out: &mut [u8; 65536], side: Side, page: &[u8]) {
+fn print_other(out: &mut Output, side: Side, page: &[u8]) {
     prints::text(out, b"\nthe other page, ");
     views::side(out, side);
     prints::item(
@@ -163,7 +166,7 @@ fn print_other(out: &mut [u8; 65536], side: Side, page: &[u8]) {
     );
 }
 
-fn print_line(out: &mut [u8; 65536], walk: Walk, live: Live, left: &[u8], right: &[u8]) {
+fn print_line(out: &mut Output, walk: Walk, live: Live, left: &[u8], right: &[u8]) {
     let start = walk.start;
     prints::filled(out, b"line #: ", &[start.line() as u64]);
     views::live(out, live);
@@ -176,13 +179,13 @@ fn print_line(out: &mut [u8; 65536], walk: Walk, live: Live, left: &[u8], right:
     }
 }
 
-fn print_note(out: &mut [u8; 65536], applies: bool, note: &[u8]) {
+fn print_note(out: &mut Output, applies: bool, note: &[u8]) {
     if applies {
         prints::text(out, note);
     }
 }
 
-fn print_swapped(out: &mut [u8; 65536], line: u8) {
+fn print_swapped(out: &mut Output, line: u8) {
     if 0 < line {
         prints::filled(
             out,
@@ -192,7 +195,7 @@ fn print_swapped(out: &mut [u8; 65536], line: u8) {
     }
 }
 
-fn print_notes(out: &mut [u8; 65536], notes: Notes) {
+fn print_notes(out: &mut Output, notes: Notes) {
     print_note(out, notes.one, b"note: LEFT and RIGHT are one file\n");
     print_note(
         out,
@@ -208,7 +211,7 @@ fn print_notes(out: &mut [u8; 65536], notes: Notes) {
 }
 
 // ---- the steps of a save
-fn print_step(out: &mut [u8; 65536], entry: Entry, place: u32) {
+fn print_step(out: &mut Output, entry: Entry, place: u32) {
     let step = entry.step;
     prints::filled(out, b"  step #: ", &[place as u64 + 1]);
     views::step(out, step);
@@ -217,7 +220,7 @@ fn print_step(out: &mut [u8; 65536], entry: Entry, place: u32) {
 }
 
 // Prints the steps of an image's cells, the first of them at a place.
-fn print_cells(out: &mut [u8; 65536], side: Side, place: u32, cells: u32) {
+fn print_cells(out: &mut Output, side: Side, place: u32, cells: u32) {
     prints::filled(
         out,
         b"  steps # to #: program the image cells of ",
@@ -228,7 +231,7 @@ fn print_cells(out: &mut [u8; 65536], side: Side, place: u32, cells: u32) {
 }
 
 // Prints what stands at a place; the image cells at their first place only.
-fn print_spot(out: &mut [u8; 65536], spot: Spot, place: u32, cells: u32) {
+fn print_spot(out: &mut Output, spot: Spot, place: u32, cells: u32) {
     match spot {
         Spot::Fixed(entry) => print_step(out, entry, place),
         Spot::Cell(_, side, at) => {
@@ -240,7 +243,7 @@ fn print_spot(out: &mut [u8; 65536], spot: Spot, place: u32, cells: u32) {
     }
 }
 
-fn print_steps(out: &mut [u8; 65536], walk: Walk) {
+fn print_steps(out: &mut Output, walk: Walk) {
     let total = walk.total();
     prints::filled(out, b"a save from here takes # steps:\n", &[total as u64]);
     for place in 0..total {
@@ -254,7 +257,7 @@ fn print_steps(out: &mut [u8; 65536], walk: Walk) {
 }
 
 // ---- the images and the whole
-fn print_image(out: &mut [u8; 65536], side: Side, page: &[u8], end: &[u8]) {
+fn print_image(out: &mut Output, side: Side, page: &[u8], end: &[u8]) {
     prints::text(out, b"the image of ");
     views::side(out, side);
     prints::text(out, end);
@@ -262,7 +265,7 @@ fn print_image(out: &mut [u8; 65536], side: Side, page: &[u8], end: &[u8]) {
 }
 
 // Prints the image of the live page; where none is live, both, unless all is erased.
-fn print_images(out: &mut [u8; 65536], walk: Walk, live: Live, left: &[u8], right: &[u8]) {
+fn print_images(out: &mut Output, walk: Walk, live: Live, left: &[u8], right: &[u8]) {
     match live {
         Live::Nowhere => {
             if !walk.erased {
@@ -278,25 +281,26 @@ fn print_images(out: &mut [u8; 65536], walk: Walk, live: Live, left: &[u8], righ
 }
 
 // Prints where the pages come from, and their words.
-fn print_words(out: &mut [u8; 65536], source: Source, left: &[u8], right: &[u8]) {
+fn print_words(out: &mut Output, source: Source, left: &[u8], right: &[u8]) {
     loads::heading(out, source, left.len());
     print_sizes(out, image_of(left));
     print_word(out, b"LEFT  word ", left);
     print_word(out, b"RIGHT word ", right);
 }
 
-fn print_pages(out: &mut [u8; 65536], source: Source, walk: Walk, left: &[u8], right: &[u8]) {
+fn print_pages(out: &mut Output, source: Source, walk: Walk, left: &[u8], right: &[u8]) {
     let live = table::status_of(left, right).live;
     print_words(out, source, left, right);
     print_line(out, walk, live, left, right);
-    print_notes(out, notes_of(source, left, right));
+    let notes = notes_of(out.runtime(), source, left, right);
+    print_notes(out, notes);
     print_steps(out, walk);
     print_images(out, walk, live, left, right);
     prints::text(out, b"ok: shown\n");
 }
 
 // ---- as JSON
-fn json_bool(out: &mut [u8; 65536], value: bool) {
+fn json_bool(out: &mut Output, value: bool) {
     if value {
         prints::text(out, b"true");
     } else {
@@ -305,46 +309,46 @@ fn json_bool(out: &mut [u8; 65536], value: bool) {
 }
 
 // Prints a printable byte within a string, with a backslash before a quote and a backslash.
-fn json_byte(out: &mut [u8; 65536], b: u8) {
+fn json_byte(out: &mut Output, b: u8) {
     match b {
         b'"' | b'\\' => prints::text(out, &[b'\\', b]),
         _ => prints::text(out, &[b]),
     }
 }
 
-fn json_text(out: &mut [u8; 65536], text: &[u8]) {
+fn json_text(out: &mut Output, text: &[u8]) {
     for i in 0..text.len() {
         json_byte(out, text[i]);
     }
 }
 
-fn json_gathered(out: &mut [u8; 65536], space: &[u8; 65536]) {
+fn json_gathered(out: &mut Output, space: &Output) {
     json_text(out, prints::gathered(space));
 }
 
-fn json_name(out: &mut [u8; 65536], name: arguments::Name) {
-    let mut space = io::large_buffer();
+fn json_name(out: &mut Output, name: arguments::Name) {
+    let mut space = Output::new(out.runtime());
     arguments::print_name(&mut space, name);
     json_gathered(out, &space);
 }
 
-fn json_hex(out: &mut [u8; 65536], b: u8) {
+fn json_hex(out: &mut Output, b: u8) {
     prints::hex(out, b as u64, 2);
 }
 
-fn json_bytes(out: &mut [u8; 65536], bytes: &[u8]) {
+fn json_bytes(out: &mut Output, bytes: &[u8]) {
     for i in 0..bytes.len() {
         json_hex(out, bytes[i]);
     }
 }
 
-fn json_file(out: &mut [u8; 65536], name: arguments::Name, at: u32) {
+fn json_file(out: &mut Output, name: arguments::Name, at: u32) {
     prints::text(out, b"{\"file\": \"");
     json_name(out, name);
     prints::filled(out, b"\", \"from\": #", &[at as u64]);
 }
 
-fn json_word(out: &mut [u8; 65536], page: &[u8]) {
+fn json_word(out: &mut Output, page: &[u8]) {
     prints::filled(
         out,
         b", \"word\": \"@\", \"erased\": ",
@@ -353,7 +357,7 @@ fn json_word(out: &mut [u8; 65536], page: &[u8]) {
     json_bool(out, flash::erased(page));
 }
 
-fn json_page(out: &mut [u8; 65536], name: arguments::Name, at: u32, page: &[u8]) {
+fn json_page(out: &mut Output, name: arguments::Name, at: u32, page: &[u8]) {
     json_file(out, name, at);
     json_word(out, page);
     prints::text(out, b", \"image\": \"");
@@ -361,7 +365,7 @@ fn json_page(out: &mut [u8; 65536], name: arguments::Name, at: u32, page: &[u8])
     prints::text(out, b"\"}");
 }
 
-fn json_held(out: &mut [u8; 65536], page: &[u8]) {
+fn json_held(out: &mut Output, page: &[u8]) {
     prints::item(
         out,
         b"\"erased\"|\"undecided\"|\"no settings\"|\"before\"",
@@ -369,7 +373,7 @@ fn json_held(out: &mut [u8; 65536], page: &[u8]) {
     );
 }
 
-fn json_live(out: &mut [u8; 65536], live: Live, left: &[u8], right: &[u8]) {
+fn json_live(out: &mut Output, live: Live, left: &[u8], right: &[u8]) {
     match live {
         Live::Nowhere => prints::text(out, b"null, \"other\": null"),
         Live::On(side) => match side {
@@ -386,7 +390,7 @@ fn json_live(out: &mut [u8; 65536], live: Live, left: &[u8], right: &[u8]) {
 }
 
 // Prints a note where it applies, and says whether one was printed, or one before it.
-fn json_note(out: &mut [u8; 65536], applies: bool, note: &[u8], before: bool) -> bool {
+fn json_note(out: &mut Output, applies: bool, note: &[u8], before: bool) -> bool {
     if !applies {
         return before;
     }
@@ -395,7 +399,7 @@ fn json_note(out: &mut [u8; 65536], applies: bool, note: &[u8], before: bool) ->
     true
 }
 
-fn json_notes(out: &mut [u8; 65536], notes: Notes) {
+fn json_notes(out: &mut Output, notes: Notes) {
     let one = json_note(out, notes.one, b"\"one file\"", false);
     let shared = json_note(out, notes.shared, b"\"shared bytes\"", one);
     let same = json_note(out, notes.same, b"\"same bytes\"", shared);
@@ -403,7 +407,7 @@ fn json_notes(out: &mut [u8; 65536], notes: Notes) {
 }
 
 // Prints the beginning of the object.
-fn json_start(out: &mut [u8; 65536], ok: bool) {
+fn json_start(out: &mut Output, ok: bool) {
     prints::text(out, b"{\"ok\": ");
     json_bool(out, ok);
     prints::text(out, b", \"version\": \"");
@@ -411,7 +415,7 @@ fn json_start(out: &mut [u8; 65536], ok: bool) {
     prints::text(out, b"\", ");
 }
 
-fn json_dumps(out: &mut [u8; 65536], source: Source, page: u32, left: &[u8], right: &[u8]) {
+fn json_dumps(out: &mut Output, source: Source, page: u32, left: &[u8], right: &[u8]) {
     let left_name = source.left;
     let right_name = source.right;
     prints::filled(out, b"\"page\": #, \"left\": ", &[page as u64]);
@@ -420,7 +424,7 @@ fn json_dumps(out: &mut [u8; 65536], source: Source, page: u32, left: &[u8], rig
     json_page(out, right_name, source.right_at, right);
 }
 
-fn json_line(out: &mut [u8; 65536], walk: Walk, left: &[u8], right: &[u8]) {
+fn json_line(out: &mut Output, walk: Walk, left: &[u8], right: &[u8]) {
     let live = table::status_of(left, right).live;
     let start = walk.start;
     prints::filled(out, b", \"line\": #, \"live\": ", &[start.line() as u64]);
@@ -432,11 +436,12 @@ fn json_line(out: &mut [u8; 65536], walk: Walk, left: &[u8], right: &[u8]) {
     );
 }
 
-fn json_pages(out: &mut [u8; 65536], source: Source, walk: Walk, left: &[u8], right: &[u8]) {
+fn json_pages(out: &mut Output, source: Source, walk: Walk, left: &[u8], right: &[u8]) {
     json_start(out, true);
     json_dumps(out, source, walk.page, left, right);
     json_line(out, walk, left, right);
-    json_notes(out, notes_of(source, left, right));
+    let notes = notes_of(out.runtime(), source, left, right);
+    json_notes(out, notes);
     prints::text(out, b"]}\n");
 }
 
@@ -450,7 +455,7 @@ fn reason(line: &[u8]) -> &[u8] {
 }
 
 // Prints the line of a failed run as an object.
-fn json_failed(out: &mut [u8; 65536], line: &[u8]) {
+fn json_failed(out: &mut Output, line: &[u8]) {
     json_start(out, false);
     prints::text(out, b"\"failed\": \"");
     json_text(out, reason(line));
@@ -459,7 +464,7 @@ fn json_failed(out: &mut [u8; 65536], line: &[u8]) {
 
 // ---- the run
 // Shows two pages whose lengths are right, so a save of nothing isn't refused.
-fn show(out: &mut [u8; 65536], source: Source, left: &[u8], right: &[u8], json: bool) {
+fn show(out: &mut Output, source: Source, left: &[u8], right: &[u8], json: bool) {
     match Walk::save(left, right, image_start(), b"") {
         Begun::Refused(_) => {}
         Begun::On(walk) => {
@@ -472,7 +477,7 @@ fn show(out: &mut [u8; 65536], source: Source, left: &[u8], right: &[u8], json: 
     }
 }
 
-fn show_source(out: &mut [u8; 65536], source: Source, json: bool) {
+fn show_source(out: &mut Output, source: Source, json: bool) {
     let mut left = loads::page_buffer();
     let mut right = loads::page_buffer();
     match loads::load_pages(out, source, &mut left, &mut right) {
@@ -482,7 +487,7 @@ fn show_source(out: &mut [u8; 65536], source: Source, json: bool) {
 }
 
 // Shows the pages that the arguments from one on name.
-fn show_from(out: &mut [u8; 65536], one: bool, at: usize, json: bool) {
+fn show_from(out: &mut Output, one: bool, at: usize, json: bool) {
     if !arguments::names_right(out, one, at, 0) {
         return;
     }
@@ -492,14 +497,14 @@ fn show_from(out: &mut [u8; 65536], one: bool, at: usize, json: bool) {
     }
 }
 
-fn usage(out: &mut [u8; 65536]) {
+fn usage(out: &mut Output) {
     prints::text(
         out,
         b"failed: usage: show [--json] LEFT RIGHT, or show [--json] --one FILE LEFT-AT RIGHT-AT LENGTH\n",
     );
 }
 
-fn help(out: &mut [u8; 65536]) {
+fn help(out: &mut Output) {
     prints::text(
         out,
         b"show [--json] LEFT RIGHT\nshow [--json] --one FILE LEFT-AT RIGHT-AT LENGTH\n  what two dumps of pages hold; --json: as one JSON object\n",
@@ -511,10 +516,10 @@ fn help(out: &mut [u8; 65536]) {
 }
 
 // Runs with the arguments from one on, of so many.
-fn run_from(out: &mut [u8; 65536], at: usize, count: usize, json: bool)
+fn run_from(out: &mut Output, at: usize, count: usize, json: bool)
     requires { at ≤ 2 }
 {
-    match arguments::option(at) {
+    match arguments::option(out.runtime(), at) {
         Word::Plain => {
             if count == at + 2 {
                 show_from(out, false, at, json);
@@ -541,7 +546,7 @@ fn is_object(text: &[u8]) -> bool {
 }
 
 // Prints what a run printed, where it isn't an object as one.
-fn print_object(out: &mut [u8; 65536], space: &[u8; 65536]) {
+fn print_object(out: &mut Output, space: &Output) {
     let text = prints::gathered(space);
     if is_object(text) {
         prints::text(out, text);
@@ -551,15 +556,15 @@ fn print_object(out: &mut [u8; 65536], space: &[u8; 65536]) {
 }
 
 // Runs with the arguments from the second on, and prints an object also where it fails.
-fn run_json(out: &mut [u8; 65536], count: usize) {
-    let mut space = io::large_buffer();
+fn run_json(out: &mut Output, count: usize) {
+    let mut space = Output::new(out.runtime());
     run_from(&mut space, 2, count, true);
     print_object(out, &space);
 }
 
-fn run(out: &mut [u8; 65536]) {
-    let count = os::arg_count();
-    match arguments::option(1) {
+fn run(out: &mut Output) {
+    let count = arguments::count(out.runtime());
+    match arguments::option(out.runtime(), 1) {
         Word::Help => help(out),
         Word::Version => arguments::print_version(out),
         Word::Crowded => usage(out),
@@ -568,8 +573,8 @@ fn run(out: &mut [u8; 65536]) {
     }
 }
 
-fn main() {
-    let mut out = io::large_buffer();
+fn main(rt: HostRuntime) {
+    let mut out = Output::new(rt);
     run(&mut out);
     prints::flush(&mut out);
 }

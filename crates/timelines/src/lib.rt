@@ -3,15 +3,18 @@
 //
 // What is printed is printed from the answers and from the pages as they are then; that they are the
 // model's is in specs/Timelines.antt and in the crate sessions.
+#![tactic(auto)]
+
 ghost use Rattle.std.specs.Prelude.{◌≡◌};
 ghost use Rattle.timelines.specs.Timelines.{walk_in, ends_with};
 
 use answers::Report;
 use boards::Hand;
+use prints::Output;
 use sessions::Session;
 
 // ---- the script
-fn print_first<'a>(out: &mut [u8; 65536], left: &'a [u8], right: &'a [u8]) {
+fn print_first<'a>(out: &mut Output, left: &'a [u8], right: &'a [u8]) {
     prints::text(out, b"\nat first\n");
     answers::show(out, left, right, b"");
 }
@@ -20,13 +23,7 @@ fn print_first<'a>(out: &mut [u8; 65536], left: &'a [u8], right: &'a [u8]) {
 // first, each call with its answer, and how often a read showed what. With `all` every step has its
 // own lines. It begins with the end of the line of P. The walk that is in hand in the end is handed
 // back. Pages that differ in length, or are longer than any page, have no calls.
-pub fn run<'a>(
-    out: &mut [u8; 65536],
-    text: &[u8],
-    left: &'a [u8],
-    right: &'a [u8],
-    all: bool,
-) -> Hand
+pub fn run<'a>(out: &mut Output, text: &[u8], left: &'a [u8], right: &'a [u8], all: bool) -> Hand
     ensures { walk_in result ≡ ends_with text.now left.now right.now }
 {
     let mut session = Session::new();

@@ -3,16 +3,19 @@
 // docs/FORMATS.md.
 //
 // No contract can say what is printed, so no public function has one.
+#![tactic(auto)]
+
 ghost use Rattle.std.specs.Prelude.{◌<◌, ◌≤◌, ◌≡◌, length};
 
 use pages::{ImageOffset, Live, PageOffset, Side};
 use plans::{Request, Spot};
+use prints::Output;
 use steps::Step;
 use verdicts::{Tally, Verdict};
 use walks::Walk;
 
 // Prints the name of a side.
-pub fn side(out: &mut [u8; 65536], s: Side) {
+pub fn side(out: &mut Output, s: Side) {
     match s {
         Side::Left => prints::text(out, b"LEFT"),
         Side::Right => prints::text(out, b"RIGHT"),
@@ -20,7 +23,7 @@ pub fn side(out: &mut [u8; 65536], s: Side) {
 }
 
 // Prints which page is live.
-pub fn live(out: &mut [u8; 65536], l: Live) {
+pub fn live(out: &mut Output, l: Live) {
     match l {
         Live::Nowhere => prints::text(out, b"no page is live"),
         Live::On(s) => {
@@ -31,7 +34,7 @@ pub fn live(out: &mut [u8; 65536], l: Live) {
 }
 
 // Prints the line of two pages and which of them is live, with no line end.
-pub fn line(out: &mut [u8; 65536], left: &[u8], right: &[u8]) {
+pub fn line(out: &mut Output, left: &[u8], right: &[u8]) {
     let status = table::status_of(left, right);
     let state = status.state;
     let on = status.live;
@@ -40,7 +43,7 @@ pub fn line(out: &mut [u8; 65536], left: &[u8], right: &[u8]) {
 }
 
 // Prints the words of two pages and their line as `line` does.
-pub fn words(out: &mut [u8; 65536], left: &[u8], right: &[u8]) {
+pub fn words(out: &mut Output, left: &[u8], right: &[u8]) {
     prints::filled(
         out,
         b"LEFT @, RIGHT @: ",
@@ -50,18 +53,18 @@ pub fn words(out: &mut [u8; 65536], left: &[u8], right: &[u8]) {
 }
 
 // Prints the side and the cell that a program step ends with.
-fn target(out: &mut [u8; 65536], s: Side, value: u16) {
+fn target(out: &mut Output, s: Side, value: u16) {
     prints::text(out, b" of ");
     side(out, s);
     prints::filled(out, b" to $", &[value as u64]);
 }
 
-fn mark(out: &mut [u8; 65536], s: Side, at: PageOffset, value: u16) {
+fn mark(out: &mut Output, s: Side, at: PageOffset, value: u16) {
     prints::filled(out, b"program cell #", &[at.0 as u64]);
     target(out, s, value);
 }
 
-fn cell(out: &mut [u8; 65536], s: Side, at: ImageOffset, value: u16) {
+fn cell(out: &mut Output, s: Side, at: ImageOffset, value: u16) {
     prints::filled(
         out,
         b"program the image cell at #",
@@ -71,7 +74,7 @@ fn cell(out: &mut [u8; 65536], s: Side, at: ImageOffset, value: u16) {
 }
 
 // Prints a flash step in words, with no line end.
-pub fn step(out: &mut [u8; 65536], s: Step) {
+pub fn step(out: &mut Output, s: Step) {
     match s {
         Step::Mark(on, at, value) => mark(out, on, at, value),
         Step::Image(on, at, value) => cell(out, on, at, value),
@@ -83,7 +86,7 @@ pub fn step(out: &mut [u8; 65536], s: Step) {
 }
 
 // Prints behind a step that it is the deciding store, if it is.
-pub fn deciding_store(out: &mut [u8; 65536], commits: bool) {
+pub fn deciding_store(out: &mut Output, commits: bool) {
     if commits {
         prints::text(out, b", the deciding store");
     }
@@ -116,7 +119,7 @@ pub fn deciding(walk: Walk) -> u32 {
 }
 
 // Prints how many steps a walk has, and which of them decides.
-pub fn counts(out: &mut [u8; 65536], walk: Walk) {
+pub fn counts(out: &mut Output, walk: Walk) {
     let steps = walk.total();
     if steps == 0 {
         prints::text(out, b"0 steps, none is needed\n");
@@ -148,7 +151,7 @@ fn event_number(event: Event) -> usize {
 }
 
 // Prints one of several texts, parted by bars: for a save, for a format, and for a cut.
-pub fn by_event(out: &mut [u8; 65536], items: &[u8], event: Event) {
+pub fn by_event(out: &mut Output, items: &[u8], event: Event) {
     prints::item(out, items, event_number(event));
 }
 
@@ -165,7 +168,7 @@ fn verdict_number(verdict: Verdict, event: Event) -> usize {
 }
 
 // Prints what a read does, after `a read `, and ends the line.
-pub fn print_verdict(out: &mut [u8; 65536], verdict: Verdict, event: Event) {
+pub fn print_verdict(out: &mut Output, verdict: Verdict, event: Event) {
     prints::item(
         out,
         b"is answered 5, as before the save\n|is answered 5, as before the format\n|is answered 5, as before the cut\n|shows the old image, whole\n|shows the old image, whole, which is the new one too\n|shows the new image, whole\n|is answered 5, as the format has it\n|shows ANOTHER IMAGE\n",
@@ -174,7 +177,7 @@ pub fn print_verdict(out: &mut [u8; 65536], verdict: Verdict, event: Event) {
 }
 
 // Prints how often a read showed what.
-pub fn print_counts(out: &mut [u8; 65536], tally: Tally) {
+pub fn print_counts(out: &mut Output, tally: Tally) {
     prints::filled(
         out,
         b", old image: #, new image: #, another: #\n",
@@ -195,7 +198,7 @@ fn number_if(is: bool) -> usize {
 }
 
 // Prints the last line, for a number of cuts.
-pub fn print_tally(out: &mut [u8; 65536], cuts: u64, tally: Tally) {
+pub fn print_tally(out: &mut Output, cuts: u64, tally: Tally) {
     prints::item(
         out,
         b"ok: |failed: ",
@@ -230,7 +233,7 @@ fn page_offset(at: usize) -> u64
 
 // Prints a run of rows that is folded, from an image offset up to another, or nothing where it is
 // empty.
-fn folded(out: &mut [u8; 65536], from: usize, to: usize, fold: Fold)
+fn folded(out: &mut Output, from: usize, to: usize, fold: Fold)
     requires { to ≤ 4096 }
 {
     if to <= from {
@@ -245,7 +248,7 @@ fn folded(out: &mut [u8; 65536], from: usize, to: usize, fold: Fold)
 }
 
 // Prints a byte in its four columns, in brackets where it was another before.
-fn byte(out: &mut [u8; 65536], b: u8, before: u8) {
+fn byte(out: &mut Output, b: u8, before: u8) {
     if b == before {
         prints::filled(out, b" % ", &[b as u64]);
     } else {
@@ -254,7 +257,7 @@ fn byte(out: &mut [u8; 65536], b: u8, before: u8) {
 }
 
 // Prints a place of a row.
-fn place(out: &mut [u8; 65536], row: &[u8], before: &[u8], at: usize)
+fn place(out: &mut Output, row: &[u8], before: &[u8], at: usize)
     requires { length row.now ≡ length before.now }
 {
     if at < row.len() {
@@ -265,7 +268,7 @@ fn place(out: &mut [u8; 65536], row: &[u8], before: &[u8], at: usize)
 }
 
 // Prints the 16 places of a row.
-fn places(out: &mut [u8; 65536], row: &[u8], before: &[u8])
+fn places(out: &mut Output, row: &[u8], before: &[u8])
     requires { length row.now ≡ length before.now }
 {
     for i in 0..16 {
@@ -273,14 +276,14 @@ fn places(out: &mut [u8; 65536], row: &[u8], before: &[u8])
     }
 }
 
-fn characters(out: &mut [u8; 65536], row: &[u8]) {
+fn characters(out: &mut Output, row: &[u8]) {
     for i in 0..row.len() {
         prints::character(out, row[i]);
     }
 }
 
 // Prints a row, whose first byte stands at an image offset.
-fn row(out: &mut [u8; 65536], bytes: &[u8], before: &[u8], at: usize)
+fn row(out: &mut Output, bytes: &[u8], before: &[u8], at: usize)
     requires { (length bytes.now ≡ length before.now) × (at ≤ 4096) }
 {
     prints::padded(out, page_offset(at), 6);
@@ -294,7 +297,7 @@ fn row(out: &mut [u8; 65536], bytes: &[u8], before: &[u8], at: usize)
 // Prints a row that isn't folded, after the run of folded rows from `run` up to it, and says
 // whether it did.
 fn unfolded(
-    out: &mut [u8; 65536],
+    out: &mut Output,
     bytes: &[u8],
     before: &[u8],
     at: usize,
@@ -320,7 +323,7 @@ fn row_end(at: usize, len: usize) -> usize
 }
 
 // Prints the rows of an image beside an earlier one. No image is longer than a page.
-fn rows(out: &mut [u8; 65536], image: &[u8], before: &[u8], fold: Fold)
+fn rows(out: &mut Output, image: &[u8], before: &[u8], fold: Fold)
     requires { length image.now ≡ length before.now }
 {
     let len = image.len();
@@ -340,13 +343,13 @@ fn rows(out: &mut [u8; 65536], image: &[u8], before: &[u8], fold: Fold)
 }
 
 // Prints the rows of an image, those that hold FF only folded.
-pub fn image(out: &mut [u8; 65536], bytes: &[u8]) {
+pub fn image(out: &mut Output, bytes: &[u8]) {
     rows(out, bytes, bytes, Fold::Erased);
 }
 
 // Prints the rows of an image with the bytes in brackets that an earlier one doesn't have, the rows
 // with none folded. An earlier image of another length counts as none.
-pub fn image_change(out: &mut [u8; 65536], bytes: &[u8], before: &[u8]) {
+pub fn image_change(out: &mut Output, bytes: &[u8], before: &[u8]) {
     if bytes.len() == before.len() {
         rows(out, bytes, before, Fold::Unchanged);
     } else {

@@ -29,21 +29,16 @@ returns-then-left-need c =
     ∙ c.loop-at.invariant.1
 
 -- the call passed: what a turn keeps
-onward : (c : Else-left-need invariant_loop decreases_loop)
-    → let at = c.before.before.before.before.before.before in
-    let s = at.before.before.args.script.now in
-    let n = c.before.before.before.size.result in
-    (at.loop.at + n ≤ length s)
-    × (found (checked_from 0 at.loop.at at.loop.left (drop at.loop.at s))
-    ≡ found (checked_from 0 (at.loop.at + n) (at.loop.left - c.before.before.room.result) (drop
-    (at.loop.at + n) s)))
+onward : (c : Else-left-need)
+    → (c.loop-at.at + c.size-size.result ≤ length c.args.script.now)
+    × (found (checked_from 0 c.loop-at.at c.loop-at.left (drop c.loop-at.at c.args.script.now))
+    ≡ found (checked_from 0 (c.loop-at.at + c.size-size.result) (c.loop-at.left - c.room-need.result) (drop
+    (c.loop-at.at + c.size-size.result) c.args.script.now)))
 onward c =
-    let at = c.before.before.before.before.before in
-    let s = at.before.before.before.args.script.now in
-    check_on s at.before.loop.at at.before.loop.left c.before.before.before.size.result
-    c.before.before.room.result c.before.before.before.before.item-at.result at.loop-test.true
-    c.before.before.before.before.item-at.ensures c.before.before.before.size.ensures
-    c.before.before.room.ensures c.before.if1.false c.if2.false
+    check_on c.args.script.now c.loop-at.at c.loop-at.left c.size-size.result
+    c.room-need.result c.item_at-item.result c.loop-at-test.true
+    c.item_at-item.ensures c.size-size.ensures
+    c.room-need.ensures c.if-size-eq0.false c.if-left-need.false
 
 pub overflow_add-at : goal.overflow_add-at
 overflow_add-at c = let h = (onward c).0 in omega arith

@@ -83,19 +83,11 @@ all_end xs ys at count i v h e =
     let k : i - at ≡ count = omega arith in
     e ∙ ap (λ (m : ℕ). overlaid xs at (replicate m v)) k
 
-pub part_overlaid : (xs d ys : List ℕ) (i : ℕ) → i + length d ≤ length xs
-    → ys ≡ take (length d) d ++ drop (length d) (mid_of i (length xs - i) xs)
-    → put_mid i (length xs - i) xs ys ≡ overlaid xs i d
+pub part_overlaid : (xs d ys : List ℕ) (i k : ℕ) → k ≡ length d → ys ≡ d → put_mid i k xs ys ≡ overlaid xs i d
 unfolding overlaid
-part_overlaid xs d ys i h e =
-    let n : length (drop i xs) ≡ length xs - i = length-drop i xs in
-    let past : drop (length xs - i) (drop i xs) ≡ [] = drop_of_length-le (drop i xs) {i = length xs - i}
-    (omega arith) in
-    let here : mid_of i (length xs - i) xs ≡ drop i xs = take_all (length xs - i) (drop i xs) (omega arith) in
-    let all : ys ≡ d ++ drop (i + length d) xs =
-    e ∙ (λ j. take-length d j ++ drop (length d) (here j))
-    ∙ ap (λ (t : List ℕ). d ++ t) (drop-drop (length d) i xs) in
-    ap (λ (t : List ℕ). take i xs ++ (ys ++ t)) past ∙ ap (λ (t : List ℕ). take i xs ++ t) (append-nil ys ∙ all)
+part_overlaid xs d ys i k n e =
+    (λ j. take i xs ++ (e j ++ drop (n j) (drop i xs)))
+    ∙ ap (λ (t : List ℕ). take i xs ++ (d ++ t)) (drop-drop (length d) i xs)
 
 -- ---- bytes written one after another
 pub written_none : (out : List ℕ) (at : ℕ) → ◌≡◌ {A = Written} (record { out = out; at = at }) (written out at [])

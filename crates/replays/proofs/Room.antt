@@ -80,10 +80,10 @@ take_most : (k : ℕ) (xs : List ℕ) → length (take k xs) ≤ k
 take_most k xs = simp length-take (omega arith)
 
 -- the part that is read has room
-part_room : (l r : List ℕ) (o : PageOffset) (n : ℕ) → read_number l r o n ≡ 0
+part_room_lem : (l r : List ℕ) (o : PageOffset) (n : ℕ) → read_number l r o n ≡ 0
     → 1 + length (read_part l r o n) ≤ part_room n
 unfolding read_number read_part
-part_room l r o n z =
+part_room_lem l r o n z =
     let page = live_page (status_of l r).live l r in
     let most : length (take n (drop o.0 page)) ≤ n = take_most n (drop o.0 page) in
     let part : read_part l r o n ≡ take n (drop o.0 page) =
@@ -112,7 +112,7 @@ read_size b o n = go (eqb (read_number b.left b.right o n) 0) refl
 
     go : (t : Bool) → eqb number 0 ≡ t
         → length (answer_bytes (cond t (C.bytes part) (C.number number))) ≤ part_room n
-    go true e = let h = part_room b.left b.right o n (eqb-true number 0 e) in omega arith
+    go true e = let h = part_room_lem b.left b.right o n (eqb-true number 0 e) in omega arith
     go false e = one (leb n 4092)
 
 part_most : (l r : List ℕ) (o : PageOffset) (n : ℕ) → length (read_part l r o n) ≤ n

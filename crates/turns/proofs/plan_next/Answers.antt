@@ -1,0 +1,16 @@
+-- `turns::plan_next` meets its contract. Assumes nothing.
+use Rattle.turns.proofs.Laws.{line_planned, step_planned}
+use borrow.Author.Rules.{rules}
+use Rattle.turns.proofs.plan_next.Goals as goal
+
+pub returns-then-left-eq0 : goal.returns-then-left-eq0
+returns-then-left-eq0 c =
+    line_planned c.args.text.now c.args.at c.args.began c.args.left c.args.room c.next_line.result
+    c.line_at.result.now
+    c.parse-call.result c.line_plan.result c.if-left-eq0.true
+    c.line_at.ensures c.parse-call.ensures c.next_line.ensures.value
+    c.line_plan.ensures
+
+pub returns : goal.returns
+returns c =
+    step_planned c.args.text.now c.args.at c.args.began c.args.left c.args.room c.if-left-eq0.false

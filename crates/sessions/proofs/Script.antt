@@ -263,6 +263,8 @@ order_follows text place after b (one c ∷ []) (one_only _) e =
       quiet = λ h. absurd
           (omega arith);
     }
+order_follows text place after b (one c ∷ (_ ∷ _)) single e = elim single [ ]
+order_follows text place after b (held n ∷ (_ ∷ _)) single e = elim single [ ]
 
 pub next_follows : (text : List ℕ) (s : Stand) → (s.left ≡ 0 → s.at < length text) → Follows text s
     (next_of text s zeros)

@@ -8,7 +8,7 @@
  *
  * Building
  *
- * Link target/staticlib/libfretgalaxy.a, which `rt staticlib fretgalaxy` makes. It is for x86-64
+ * Link target/staticlib/libfretgalaxy.a, which `tools/build fretgalaxy` makes. It is for x86-64
  * Linux: ELF objects and that system's calling convention. The library keeps nothing between calls.
  * Of C's functions it calls those on the next line and no others. A host without a C library
  * supplies them; either may be called with length 0, and then with any pointers.

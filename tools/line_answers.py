@@ -73,7 +73,7 @@ def run(folder, program, *arguments):
     """The lines that a program prints, the last of which has to say that all went well."""
     path = ROOT / 'target' / 'bin' / program
     if not path.is_file():
-        raise Fault(f'target/bin/{program} is missing: `rt check {program}` makes it')
+        raise Fault(f'target/bin/{program} is missing: `tools/build {program}` makes it')
     done = subprocess.run([str(path), *arguments], cwd=folder, stdin=subprocess.DEVNULL, timeout=20,
                           capture_output=True, encoding='latin-1')
     lines = done.stdout.splitlines() or ['nothing']

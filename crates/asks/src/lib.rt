@@ -1,5 +1,7 @@
 // What a line of a script asks for: its call, or its first fault. The layout is in docs/FORMATS.md,
 // its definitions in specs/Asks.antt. Lines, words and numbers are in the crate texts.
+#![tactic(auto)]
+
 ghost use Rattle.std.specs.Prelude.{◌≡◌};
 ghost use Rattle.asks.specs.Asks.{
   ended_by,

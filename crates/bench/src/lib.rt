@@ -5,6 +5,8 @@
 // Each has one place that calls what it stands for: so the compiler puts it there whole. The erased
 // test and both reads stand in a library of their own, bench_reads, and walks as a whole in
 // bench_walks. What each answer means is in specs/Calls.antt.
+#![tactic(auto)]
+
 ghost use Rattle.std.specs.Prelude.{◌≡◌};
 ghost use Rattle.walks.specs.Walks.{begin_save};
 ghost use Rattle.bench.specs.Calls.{

@@ -4,6 +4,8 @@
 //
 // Each has one place that calls what it stands for: so the compiler puts it there whole. What each
 // answer means is in specs/Parts.antt.
+#![tactic(auto)]
+
 ghost use Rattle.std.specs.Prelude.{◌≡◌, get_or};
 ghost use Rattle.flash.specs.Flash.{Outcome, is_erased};
 ghost use Rattle.reads.specs.Reads.{read_part, filled};

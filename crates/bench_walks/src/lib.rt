@@ -3,6 +3,8 @@
 // compiled code and is made part of the loop.
 //
 // What each answer means is in specs/Whole.antt.
+#![tactic(auto)]
+
 ghost use Rattle.std.specs.Prelude.{◌≡◌};
 ghost use Rattle.walks.specs.Walks.{said_in, beginning_in};
 ghost use Rattle.bench_walks.specs.Whole.{number_said, Walked, walked};

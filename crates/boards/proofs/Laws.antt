@@ -2,10 +2,10 @@
 -- In order: beginnings; steps; reads; a cut.
 -- Assumes nothing.
 use Prim.Native.Nat.{ℕ, zero, suc, ◌+◌, ◌-◌}
-use mathlib.Core.Path.{◌≡◌, refl, sym, ap, ap₂, subst, ◌∙◌}
+use mathlib.Core.Path.{◌≡◌, refl, sym, ap, ap₂, ◌∙◌}
 use mathlib.Core.Bool.{Bool, true, false, cond}
 use mathlib.Core.List.{List, [], ◌∷◌, ◌++◌}
-use mathlib.Core.Option.{Option, none, some}
+use mathlib.Core.Option.{some}
 use native.Mathlib.Omega.{arith}
 use lib.Dec.{eqb}
 use lib.ListN.{replicate}
@@ -35,8 +35,7 @@ use Rattle.walks.specs.Walks.{
 }
 use Rattle.walks.proofs.Runs.{unmade_keeps, course}
 use Rattle.model.specs.Calls as C
-use Rattle.model.specs.Board as B
-use Rattle.model.specs.Board.{Board, after_begin, answer_of, handed, after_step, part_read, turn, answers, board_after}
+use Rattle.model.specs.Board.{Board, after_begin, answer_of, handed, after_step, turn, answers, board_after}
 use Rattle.boards.specs.declared.Hand.{Hand}
 use Rattle.boards.specs.declared.Hand.TheVariants.{Empty, Holding}
 use Rattle.boards.specs.declared.Call.{Call}
@@ -44,19 +43,7 @@ use Rattle.boards.specs.declared.Call.TheVariants.{Save, Format, Step, Read, Rea
 use Rattle.boards.specs.declared.Answer.{Answer}
 use Rattle.boards.specs.declared.Answer as A
 use Rattle.boards.specs.declared.Turn.{Turn}
-use Rattle.boards.specs.Boards.{
-  board_in,
-  answer_in,
-  answers_in,
-  held_after,
-  begun_turn,
-  progress_answer,
-  read_answer,
-  Made,
-  turn_in,
-  made_on,
-  Steps,
-}
+use Rattle.boards.specs.Boards.{board_in, answer_in, answers_in, held_after, begun_turn, progress_answer, read_answer, turn_in, made_on, Steps}
 
 -- ---- beginnings
 pub save_made : (o : PageOffset) (hand : Hand) (begun : Begun) (held d l r out : List ℕ) (t : Turn)

@@ -3,6 +3,8 @@
 //
 // It is total: any hand, any bytes and lengths. The data that a walk was begun with is lent too. What
 // each answer means is in specs/Boards.antt.
+#![tactic(auto)]
+
 ghost use Rattle.std.specs.Prelude.{◌≡◌};
 ghost use Rattle.reads.specs.Reads.{read_number};
 ghost use Rattle.model.specs.Board.{handed};

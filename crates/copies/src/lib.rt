@@ -4,6 +4,8 @@
 // A plain loop over two slices is compiled to small moves, since they might overlap for all that the
 // compiler knows. Here each block goes by way of an array that overlaps with neither; compiled, the
 // array is gone and one call moves the block. What a copy is, is in specs/Copies.antt.
+#![tactic(auto)]
+
 ghost use Rattle.std.specs.Prelude.{◌-◌, ◌≤◌, min, ◌++◌, ◌≡◌, length, take, drop};
 ghost use Rattle.copies.specs.Copies.{copied};
 

@@ -1,6 +1,6 @@
 -- Words as numbers and as bytes (docs/FORMATS.md, "replay"): words and buffers are lists of bytes.
 -- In order: digits; numbers; hexadecimal digits and bytes. Laws: proofs/Laws.antt. Assumes nothing.
-use Rattle.std.specs.Prelude.{ℕ, ◌+◌, ◌-◌, ◌*◌, ◌%◌, Bool, true, false, cond, ◌&&◌, List, [], ◌∷◌, ◌++◌, ltb, leb, length, drop}
+use Rattle.std.specs.Prelude.{ℕ, ◌+◌, ◌-◌, ◌*◌, ◌%◌, Bool, true, cond, ◌&&◌, List, [], ◌∷◌, ◌++◌, ltb, leb, length, drop}
 use Rattle.digits.specs.declared.Fault.TheVariants.{NoNumber, NotNumber, PastBits}
 use Rattle.digits.specs.declared.Number.{Number}
 use Rattle.digits.specs.declared.Number as N

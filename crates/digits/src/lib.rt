@@ -1,5 +1,7 @@
 // Words as numbers and as bytes: digits, decimal numbers of 32 bits, bytes of two hexadecimal digits.
 // The layout is in docs/FORMATS.md, its definitions in specs/Digits.antt.
+#![tactic(auto)]
+
 ghost use Rattle.std.specs.Prelude.{◌+◌, ◌*◌, ◌≤◌, cond, ◌≡◌, ltb, length};
 ghost use Rattle.digits.specs.Digits.{
   digit_of,

@@ -3,6 +3,8 @@
 // A place is looked up without going through the list: the steps before the image cells, the cells,
 // and the marks after them each have their own. The list, and what an answer here means, is in
 // specs/ of the crate plans.
+#![tactic(auto)]
+
 ghost use Rattle.std.specs.Prelude.{◌<◌, false, ◌≡◌, length, get_or};
 ghost use Rattle.pages.specs.declared.Live.TheVariants.{Nowhere, On};
 ghost use Rattle.pages.specs.Pages.{on_side};

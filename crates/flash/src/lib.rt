@@ -3,6 +3,8 @@
 // A cell is 16 bits at an even place, low byte first, and is named by that place. A step happens
 // whole or not at all; one that is refused changes no byte. What each answer means is in
 // specs/Flash.antt.
+#![tactic(auto)]
+
 ghost use Rattle.std.specs.Prelude.{◌≡◌, ◌+◌, ◌*◌, ◌≤◌, not, ◌&&◌, eqb, length, drop};
 ghost use Rattle.flash.specs.Flash.{
   Outcome,

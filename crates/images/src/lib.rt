@@ -1,6 +1,8 @@
 // Images: bytes 4 to P - 1 of a page, and the image that a save makes of an old one.
 //
 // What the new image is, and what each of its cells holds, is in specs/Images.antt.
+#![tactic(auto)]
+
 ghost use Rattle.std.specs.Prelude.{◌≡◌};
 ghost use Rattle.flash.specs.Flash.{cell_in};
 ghost use Rattle.images.specs.Images.{data_cell, new_cell};

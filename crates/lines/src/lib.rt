@@ -3,6 +3,8 @@
 //
 // Each page is looked through at most once, and only where erased-or-not counts. What each answer
 // means is in specs/Starts.antt, and what a step wants in the crate plans.
+#![tactic(auto)]
+
 ghost use Rattle.std.specs.Prelude.{◌&&◌, ◌≡◌, eqb};
 ghost use Rattle.pages.specs.declared.State.TheVariants.{S0};
 ghost use Rattle.pages.specs.Pages.{word_of, row_of, status_of};

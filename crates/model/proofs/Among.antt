@@ -2,25 +2,23 @@
 -- once for each step that is left, then `ended`, and its last step leaves the pages that its list leaves.
 -- In order: what a walk's steps lead to; one call; a sequence of calls.
 -- Assumes nothing.
-use Prim.Native.Nat.{ℕ, zero, suc, ◌+◌, ◌-◌, ◌<◌, ◌≤◌}
+use Prim.Native.Nat.{ℕ, suc, ◌+◌, ◌-◌, ◌<◌, ◌≤◌}
 use mathlib.Core.Path.{◌≡◌, refl, sym, ap, ap₂, subst, ◌∙◌}
-use mathlib.Core.Bool.{Bool, true, false, cond, not}
+use mathlib.Core.Bool.{Bool, true, false, cond}
 use mathlib.Core.List.{List, [], ◌∷◌}
-use mathlib.Core.Option.{Option, none, some}
-use native.Mathlib.Numerals.{add-one, lt_of_le_of_ne}
+use mathlib.Core.Option.{Option, some}
+use native.Mathlib.Numerals.{lt_of_le_of_ne}
 use native.Mathlib.Omega.{arith}
 use lib.Dec.{eqb}
 use lib.ListN.{length, get_or, drop, drop_of_length-le}
 use lib.Seq.{drop-cons}
 use borrow.Author.Tests.{eq-eqb, ne_eqb, eqb-true, eqb-false}
-use Rattle.pages.specs.Pages.{live_of, status_of}
 use Rattle.steps.specs.Steps.{Tried, tried}
 use Rattle.images.specs.Images.{live_image}
 use Rattle.plans.specs.declared.Entry.{Entry}
 use Rattle.plans.specs.Plans.{nothing}
 use Rattle.plans.proofs.Good.{MaybeImage, Good}
 use Rattle.plans.proofs.Whole.{made_all}
-use Rattle.walks.specs.declared.Walk.{Walk}
 use Rattle.walks.specs.Walks as W
 use Rattle.walks.specs.Walks.{steps_of, advanced, kept, stepped}
 use Rattle.model.specs.Calls.{Call, Answer, ByteCall, ByteCalls}
@@ -43,19 +41,7 @@ use Rattle.model.specs.Book.{
   hearing,
 }
 use Rattle.model.specs.Among.{Leaves, AllLeave, is_step, steps_in, step_answers, made_then_ended}
-use Rattle.model.proofs.Agree.{
-  Walking,
-  Hands,
-  Agree,
-  list_at,
-  unchanged,
-  step_made,
-  another_length,
-  all_made,
-  held_step,
-  book_step,
-  follow,
-}
+use Rattle.model.proofs.Agree.{Walking, Hands, Agree, list_at, step_made, another_length, all_made, held_step, book_step, follow}
 use Rattle.model.proofs.Decided.{same_list}
 
 -- ---- what the steps of the walk in hand lead to

@@ -2,7 +2,7 @@
 -- In order: a step; a beginning; a call; a sequence.
 -- Assumes nothing.
 use Prim.Native.Nat.{ℕ, ◌+◌, ◌<◌, ◌≤◌}
-use mathlib.Core.Path.{◌≡◌, refl, sym, ap, ap₂, subst, ◌∙◌}
+use mathlib.Core.Path.{◌≡◌, refl, sym, ap, ap₂, ◌∙◌}
 use mathlib.Core.Bool.{Bool, true, false, cond, not, ◌&&◌}
 use mathlib.Core.List.{List, [], ◌∷◌, ◌++◌}
 use mathlib.Core.Option.{Option, none, some}
@@ -10,9 +10,9 @@ use native.Mathlib.Numerals.{lt_of_le_of_ne}
 use native.Mathlib.Omega.{arith}
 use lib.Dec.{eqb}
 use lib.ListN.{length, get_or}
-use borrow.Author.Tests.{eq-eqb, ne_eqb, eqb-true, eqb-false}
+use borrow.Author.Tests.{eqb-false}
 use Rattle.flash.specs.Flash.{Bytes}
-use Rattle.requests.specs.Numbers.{request_number, pages_number}
+use Rattle.requests.specs.Numbers.{pages_number}
 use Rattle.plans.specs.declared.Entry.{Entry}
 use Rattle.plans.specs.Plans.{nothing}
 use Rattle.walks.specs.Walks.{steps_of}
@@ -51,7 +51,7 @@ use Rattle.model.specs.Decided.{
   decides,
   decided,
 }
-use Rattle.model.proofs.Agree.{Walking, Hands, Agree, list_at, book_step, follow}
+use Rattle.model.proofs.Agree.{Walking, Hands, Agree, list_at, follow}
 use Rattle.model.proofs.Demand3.{opens}
 
 -- ---- a step

@@ -3,11 +3,10 @@
 -- Assumes nothing.
 use Prim.Native.Nat.{ℕ, suc, ◌+◌, ◌-◌, ◌/◌, ◌≤◌}
 use mathlib.Core.Path.{◌≡◌, refl, sym, ap, ap₂, subst, ◌∙◌}
-use mathlib.Core.Bool.{Bool, true, false, cond}
+use mathlib.Core.Bool.{Bool, false, cond}
 use mathlib.Core.List.{List, [], ◌∷◌}
 use mathlib.Core.Option.{Option, none, some}
 use native.Mathlib.Omega.{arith}
-use lib.Dec.{eqb}
 use lib.ListN.{length, drop, replicate}
 use borrow.Author.Tests.{eq-eqb}
 use Rattle.flash.specs.Flash.{Bytes, erasure}
@@ -72,7 +71,7 @@ use Rattle.model.proofs.Agree.{
 use Rattle.model.proofs.Demand3.{opens, still_agree}
 use Rattle.model.proofs.Decided.{same_list}
 use Rattle.model.proofs.Shown.{book_image}
-use Rattle.model.proofs.Among.{in_hand, Landing, Under, Passed, among}
+use Rattle.model.proofs.Among.{in_hand, Under, among}
 
 -- ---- exact steps
 -- the job of a walk in hand

@@ -1,8 +1,8 @@
 -- What reads show: the image at first with the requests that were decided on the board since, one after another.
 -- In order: an empty list; a call; a sequence; both reads.
 -- Assumes nothing.
-use Prim.Native.Nat.{ℕ, ◌+◌, ◌≤◌}
-use mathlib.Core.Path.{◌≡◌, refl, sym, ap, ap₂, subst, ◌∙◌}
+use Prim.Native.Nat.{ℕ, ◌+◌}
+use mathlib.Core.Path.{◌≡◌, refl, sym, ap, ap₂, ◌∙◌}
 use mathlib.Core.Bool.{Bool, true, false, cond, not, ◌&&◌}
 use mathlib.Core.List.{List, [], ◌∷◌, ◌++◌}
 use mathlib.Core.Option.{Option, none, some}
@@ -20,7 +20,6 @@ use Rattle.pages.proofs.Table.{status_live}
 use Rattle.requests.specs.Numbers.{request_number, pages_number}
 use Rattle.reads.specs.Reads.{output_after}
 use Rattle.images.specs.Images.{image_on, live_image}
-use Rattle.plans.specs.declared.Entry.{Entry}
 use Rattle.plans.specs.declared.Request.TheVariants.{Save, Format}
 use Rattle.plans.specs.Plans.{formatting}
 use Rattle.plans.specs.Counts.{step_count}

@@ -4,14 +4,13 @@
 use Rattle.std.specs.Prelude.{ℕ, Bool, true, false, cond, ◌&&◌, List, [], ◌∷◌, ◌++◌, eqb, length, get_or}
 use Rattle.std.proofs.Math.Option.{Option, none, some}
 use Rattle.pages.specs.declared.PageOffset.{PageOffset}
-use Rattle.plans.specs.declared.Entry.{Entry}
 use Rattle.plans.specs.declared.Request.{Request}
 use Rattle.plans.specs.declared.Request.TheVariants.{Save, Format}
 use Rattle.plans.specs.Plans.{nothing}
 use Rattle.walks.specs.Walks.{steps_of}
 use Rattle.model.specs.Calls.{Call, Answer}
 use Rattle.model.specs.Calls as C
-use Rattle.model.specs.Board.{Hand, Board, turn, board_after}
+use Rattle.model.specs.Board.{Hand, Board, turn}
 use Rattle.model.specs.Book.{Asked, save, format, list_for}
 
 abbrev pub is_made : Answer → Bool

@@ -7,11 +7,11 @@
 use Prim.Native.Nat.{ℕ, ◌+◌, ◌*◌, ◌/◌, ◌%◌}
 use mathlib.Core.Path.{◌≡◌, refl}
 use mathlib.Core.List.{List, [], ◌∷◌}
-use mathlib.Core.Option.{Option, none, some}
+use mathlib.Core.Option.{Option, some}
 use lib.ListN.{length}
 use Rattle.pages.specs.declared.Side.{Side}
 use Rattle.pages.specs.declared.Side.TheVariants.{Left, Right}
-use Rattle.pages.specs.Pages.{on_side, table, look, live_of, standing}
+use Rattle.pages.specs.Pages.{on_side, table, look, standing}
 
 -- ---- what changes a word
 -- "Program a cell", cell 0 or cell 2 of the page on a side, to a number; "Blank a page"

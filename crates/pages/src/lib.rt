@@ -3,6 +3,8 @@
 //
 // A page is P bytes. Bytes 0 to 3 are management: Valid, Active, Dead, Spare, one 32-bit word with
 // Valid lowest. Bytes 4 to P - 1 are the image. What each answer means is in specs/Pages.antt.
+#![tactic(auto)]
+
 ghost use Rattle.std.specs.Prelude.{◌≡◌, get_or};
 ghost use Rattle.pages.specs.Pages.{
   word_of,

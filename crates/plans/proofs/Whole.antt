@@ -2,13 +2,13 @@
 -- In order: the pages after all steps of a list; tidying leaves line 3 or 7; a format leaves both pages erased; a page is
 -- blanked unless all its bytes are FF; each image cell stands once, and an earlier one lower.
 -- Not here: that it is safe to cut between any two steps (Good.antt, Begins.antt). Assumes nothing.
-use Prim.Native.Nat.{ℕ, suc, ◌+◌, ◌-◌, ◌*◌, ◌/◌, ◌%◌, ◌<◌, ◌≤◌}
+use Prim.Native.Nat.{ℕ, ◌+◌, ◌-◌, ◌*◌, ◌/◌, ◌%◌, ◌<◌, ◌≤◌}
 use mathlib.Core.Path.{◌≡◌, refl, sym, ap, ap₂, ◌∙◌}
 use mathlib.Core.Bool.{Bool, true, false, cond, not, ◌&&◌, ◌||◌}
 use mathlib.Core.List.{List, [], ◌∷◌, ◌++◌}
-use mathlib.Core.Option.{Option, none, some}
+use mathlib.Core.Option.{some}
 use native.Mathlib.Omega.{arith}
-use lib.ListN.{length, drop, length-append}
+use lib.ListN.{length, drop}
 use Rattle.flash.specs.Flash.{Bytes, cell_at, erasure, is_erased}
 use Rattle.flash.proofs.Laws.{and_left, and_right, erased_is_erasure}
 use Rattle.pages.specs.declared.Side.{Side}
@@ -44,9 +44,9 @@ use Rattle.plans.specs.Plans.{
   others_erased,
 }
 use Rattle.plans.specs.Counts.{cell_count, added}
-use Rattle.plans.specs.Spots.{entry_at, ImageCell, image_cell, save_spot, spot_of, spot_cell}
+use Rattle.plans.specs.Spots.{entry_at, ImageCell, image_cell}
 use Rattle.plans.proofs.Counts.{plan_length, ready_length}
-use Rattle.plans.proofs.Laws.{ready_count, save_cell}
+use Rattle.plans.proofs.Laws.{save_cell}
 use Rattle.plans.proofs.Spots.{entry_at_lem, list_cell, cell_save, save_place}
 use Rattle.plans.proofs.Shapes.{
   fresh,

@@ -3,6 +3,8 @@
 //
 // What the list is, and why it is safe to cut between any two steps, is in specs/Plans.antt and
 // proofs/Begins.antt. What stands at a place of it is looked up in the crate entries.
+#![tactic(auto)]
+
 ghost use Rattle.std.specs.Prelude.{◌≡◌};
 ghost use Rattle.plans.specs.Counts.{cell_count, added, format_count, step_count};
 

@@ -4,6 +4,8 @@
 // Both are total: any bytes, any lengths, any offset. Neither changes a page. The numbers are
 // tested before a byte of a page is looked at, and only a copy goes through the asked bytes. What
 // each answer means is in specs/Reads.antt.
+#![tactic(auto)]
+
 ghost use Rattle.std.specs.Prelude.{◌≡◌, ◌+◌, ◌≤◌, length, take, drop};
 ghost use Rattle.flash.specs.Flash.{Outcome};
 ghost use Rattle.pages.specs.Pages.{on_side};

@@ -2,6 +2,8 @@
 // before a byte of a page is looked at.
 //
 // What each answer means, and each number's case, is in specs/Numbers.antt.
+#![tactic(auto)]
+
 ghost use Rattle.std.specs.Prelude.{◌≡◌};
 ghost use Rattle.requests.specs.Numbers.{
   number_of,

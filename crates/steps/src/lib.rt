@@ -2,6 +2,8 @@
 // erased, on one side.
 //
 // A step happens whole or not at all. What each step does is in specs/Steps.antt.
+#![tactic(auto)]
+
 ghost use Rattle.std.specs.Prelude.{◌≡◌};
 ghost use Rattle.flash.specs.Flash.{Outcome, number_in, programmed};
 ghost use Rattle.steps.specs.declared.Step.TheVariants.{Image};

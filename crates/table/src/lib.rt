@@ -1,5 +1,7 @@
 // The table of lines, and which line two pages are at: the look-up of their management words. The
 // definitions, and what is proved of the table, are in the crate pages.
+#![tactic(auto)]
+
 ghost use Rattle.std.specs.Prelude.{◌≡◌, ◌+◌, ◌*◌};
 ghost use Rattle.pages.specs.declared.Live.TheVariants.{On};
 ghost use Rattle.pages.specs.Pages.{table, hits, look, status_of, standing};

@@ -4,6 +4,8 @@
 //
 // A word is named by its number in its line, from 0. A line or a word that isn't there is empty, so
 // any text, place and number may be asked about.
+#![tactic(auto)]
+
 ghost use Rattle.std.specs.Prelude.{◌+◌, ◌-◌, ◌*◌, ◌≤◌, cond, ◌≡◌, ltb, length};
 ghost use Rattle.texts.specs.Texts.{
   before_first,

@@ -3,6 +3,8 @@
 //
 // Any entry may be tried on any pages. What a try is, is in specs/Tries.antt; the list of steps is the
 // crate plans'.
+#![tactic(auto)]
+
 ghost use Rattle.std.specs.Prelude.{◌≡◌};
 ghost use Rattle.flash.specs.Flash.{number_in};
 ghost use Rattle.pages.specs.Offsets.{image_of};

@@ -1,5 +1,7 @@
 // What a read shows after a save or a format was cut: the image before it, what it was to leave, or
 // another. What each verdict means is in specs/Verdicts.antt.
+#![tactic(auto)]
+
 ghost use Rattle.std.specs.Prelude.{◌≡◌, ◌≤◌, length, nat_lt};
 ghost use Rattle.texts.specs.Texts.{same};
 ghost use Rattle.verdicts.specs.Verdicts.{

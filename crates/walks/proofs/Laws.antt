@@ -1,7 +1,7 @@
 -- Laws of the list of a walk with right numbers: what stands at its place, and how long it is.
 -- Not here: the list of a request (the crate plans). Assumes nothing.
-use Prim.Native.Nat.{ℕ, ◌+◌, ◌-◌, ◌%◌, ◌<◌, ◌≤◌}
-use mathlib.Core.Path.{◌≡◌, refl, sym, ap, subst, ◌∙◌}
+use Prim.Native.Nat.{ℕ, ◌+◌, ◌%◌, ◌<◌}
+use mathlib.Core.Path.{◌≡◌, refl, sym, ap, ◌∙◌}
 use mathlib.Core.Bool.{Bool, true, false}
 use mathlib.Core.List.{List}
 use mathlib.Core.Option.{Option, none, some}
@@ -29,7 +29,7 @@ use Rattle.plans.specs.declared.InCells.{InCells}
 use Rattle.plans.specs.Plans.{entry, target, clean, meets, nothing}
 use Rattle.plans.specs.Counts.{step_count}
 use Rattle.plans.specs.Spots.{entry_at, entry_in, Stands, cell_in, image_cell, Programs}
-use Rattle.plans.proofs.Spots.{Found, entry_at_lem, cell_found}
+use Rattle.plans.proofs.Spots.{entry_at_lem, cell_found}
 use Rattle.tries.specs.Tries.{attempt, cell_entry}
 use Rattle.tries.proofs.Laws.{try_unmet, clean_image}
 use Rattle.walks.specs.declared.Walk.{Walk}

@@ -1,14 +1,14 @@
 -- Laws of steps one after another.
 -- In order: a step moves only the place, and one that isn't made moves nothing; stepping on, step by step.
 -- Assumes nothing.
-use Prim.Native.Nat.{ℕ, zero, suc, ◌+◌, ◌-◌, ◌<◌, ◌≤◌}
+use Prim.Native.Nat.{ℕ, suc, ◌+◌, ◌-◌, ◌<◌, ◌≤◌}
 use mathlib.Core.Path.{◌≡◌, refl, sym, ap, subst, ◌∙◌}
 use mathlib.Core.Bool.{Bool, true, false, cond}
 use mathlib.Core.List.{List}
 use native.Mathlib.Omega.{arith}
 use lib.Dec.{eqb, ltb}
 use lib.ListN.{length, get_or}
-use borrow.Author.Tests.{eqb-true, eqb-false}
+use borrow.Author.Tests.{eqb-false}
 use Rattle.steps.specs.Steps.{Tried}
 use Rattle.plans.specs.declared.Entry.{Entry}
 use Rattle.plans.specs.Plans.{nothing}
@@ -19,26 +19,7 @@ use Rattle.walks.specs.declared.Progress.{Progress}
 use Rattle.walks.specs.declared.Progress.TheVariants.{Made, Ended, Unfit}
 use Rattle.walks.specs.declared.Stepped as S
 use Rattle.walks.specs.declared.Ran as R
-use Rattle.walks.specs.Walks.{
-  Said,
-  number,
-  made,
-  ended,
-  said_in,
-  Outcome,
-  steps_of,
-  wrong_numbers,
-  at_place,
-  advanced,
-  kept,
-  after,
-  stepped,
-  step_of,
-  Course,
-  if_made,
-  one_more,
-  run_of,
-}
+use Rattle.walks.specs.Walks.{number, made, said_in, Outcome, steps_of, wrong_numbers, at_place, advanced, kept, after, stepped, step_of, Course, if_made, one_more, run_of}
 
 -- ---- a step moves only the place
 abbrev Moved : Walk → Outcome → Type 0

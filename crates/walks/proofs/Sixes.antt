@@ -3,18 +3,18 @@
 -- In order: kept numbers; another line; bits; none of them.
 -- Assumes nothing.
 use Prim.Native.Nat.{ℕ, ◌<◌}
-use mathlib.Core.Path.{◌≡◌, refl, sym, ap, subst, ◌∙◌}
+use mathlib.Core.Path.{◌≡◌, refl, sym, ap, ◌∙◌}
 use mathlib.Core.Bool.{Bool, true, false, cond, not, ◌||◌}
 use mathlib.Core.List.{List}
 use native.Mathlib.Omega.{arith}
-use lib.Dec.{eqb, ltb}
+use lib.Dec.{eqb}
 use lib.ListN.{length, get_or}
 use borrow.Author.Tests.{eq-eqb, ne_eqb, eqb-true, not-false, lt-ltb, le-ltb}
 use Rattle.pages.specs.declared.PageOffset.{PageOffset}
 use Rattle.pages.specs.Pages.{line_of, status_of}
 use Rattle.requests.specs.Numbers.{request_number}
 use Rattle.requests.specs.Legal.{Legal}
-use Rattle.requests.proofs.Laws.{or_left, or_right, legal, legal_none}
+use Rattle.requests.proofs.Laws.{or_left, or_right, legal_none}
 use Rattle.steps.specs.Steps.{Tried, tried}
 use Rattle.plans.specs.declared.Entry.{Entry}
 use Rattle.plans.specs.declared.Request.{Request}

@@ -2,8 +2,8 @@
 -- In order: wrong numbers; beyond the end and at it; an entry tried; what a step that isn't made keeps.
 -- Not here: which entry stands at a place (Laws.antt); wrong numbers themselves (Numbers.antt). Assumes nothing.
 use Prim.Native.Nat.{ℕ, ◌<◌}
-use mathlib.Core.Path.{◌≡◌, refl, sym, ap, ◌∙◌}
-use mathlib.Core.Bool.{Bool, true, false, cond}
+use mathlib.Core.Path.{◌≡◌, sym, ap, ◌∙◌}
+use mathlib.Core.Bool.{true, false}
 use mathlib.Core.List.{List}
 use native.Mathlib.Omega.{arith}
 use lib.ListN.{length, get_or}

@@ -8,6 +8,8 @@
 //
 // Any walk may be made by hand and stepped on any pages: a step tests all that it relies on. What
 // each beginning and each step are is in specs/Walks.antt, the list of steps in the crate plans.
+#![tactic(auto)]
+
 ghost use Rattle.std.specs.Prelude.{◌<◌, ◌≤◌, false, ◌≡◌, length, get_or};
 ghost use Rattle.flash.specs.Flash.{number_in};
 ghost use Rattle.requests.specs.Numbers.{number_in as check_number, request_number};

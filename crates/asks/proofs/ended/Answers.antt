@@ -1,5 +1,4 @@
 -- `asks::ended` meets its contract. Assumes nothing.
-use borrow.Author.Rules.{rules}
 use Rattle.asks.proofs.Laws.{ended_yes, ended_no}
 use Rattle.asks.proofs.ended.Goals as goal
 

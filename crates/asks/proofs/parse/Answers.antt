@@ -1,7 +1,6 @@
 -- `asks::parse` meets its contract. Assumes nothing.
 use mathlib.Core.Path.{ap}
 use mathlib.Core.Bool.{true, false}
-use borrow.Author.Rules.{rules}
 use Rattle.asks.specs.Asks.{save_word, format_word, step_word, asks_in, asks_of}
 use Rattle.texts.proofs.Laws.{same_is}
 use Rattle.asks.proofs.Laws.{call_none, call_save, call_format, call_step, call_other}

@@ -1,6 +1,5 @@
 -- `asks::parse_other` meets its contract. Assumes nothing.
 use mathlib.Core.Bool.{true, false}
-use borrow.Author.Rules.{rules}
 use Rattle.asks.specs.Asks.{read_word, copy_word, cut_word}
 use Rattle.texts.proofs.Laws.{same_is}
 use Rattle.asks.proofs.Laws.{other_read, other_copy, other_cut, other_none}

@@ -1,5 +1,4 @@
 -- `asks::parse_part` meets its contract. Assumes nothing.
-use borrow.Author.Rules.{rules}
 use Rattle.digits.specs.declared.Number.TheVariants as N
 use Rattle.asks.proofs.Laws.{number_told, part_bad, part_bad_2, part_long, part_good}
 use Rattle.asks.proofs.parse_part.Goals as goal

@@ -1,5 +1,4 @@
 -- `asks::parse_save` meets its contract. Assumes nothing.
-use borrow.Author.Rules.{rules}
 use Rattle.digits.specs.declared.Number.TheVariants as N
 use Rattle.asks.proofs.Laws.{number_told, save_bad, save_good}
 use Rattle.asks.proofs.parse_save.Goals as goal

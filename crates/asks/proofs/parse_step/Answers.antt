@@ -1,6 +1,5 @@
 -- `asks::parse_step` meets its contract. Assumes nothing.
 use mathlib.Core.Bool.{true, false}
-use borrow.Author.Rules.{rules}
 use Rattle.asks.specs.Asks.{with_word, all_word}
 use Rattle.texts.proofs.Laws.{same_is}
 use Rattle.asks.proofs.Laws.{step_one, step_with_lem, step_all, step_bad, step_times}

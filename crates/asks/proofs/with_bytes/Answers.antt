@@ -1,5 +1,4 @@
 -- `asks::with_bytes` meets its contract. Assumes nothing.
-use borrow.Author.Rules.{rules}
 use Rattle.asks.proofs.Laws.{bytes_bad, bytes_odd, bytes_long, bytes_good}
 use Rattle.asks.proofs.with_bytes.Goals as goal
 

@@ -1,6 +1,5 @@
 -- `bench::bench_begin` meets its contract: it is the beginning of a save, its answer as numbers. Assumes nothing.
 use Rattle.bench.proofs.Laws.{begun_as, refused_as}
-use borrow.Author.Rules.{rules}
 use Rattle.bench.proofs.bench_begin.Goals as goal
 
 pub returns-in-On : goal.returns-in-On

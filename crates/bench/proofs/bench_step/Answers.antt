@@ -2,7 +2,6 @@
 use mathlib.Core.Path.{sym, ap, ◌∙◌}
 use Rattle.bench.specs.Calls.{line_in}
 use Rattle.bench.proofs.Laws.{step_as_lem, step_none}
-use borrow.Author.Rules.{rules}
 use Rattle.bench.proofs.bench_step.Goals as goal
 
 pub returns-in-Unknown : goal.returns-in-Unknown

@@ -1,5 +1,4 @@
 -- `bench::kept_in` meets its contract: the line is that of the state. Assumes nothing.
-use borrow.Author.Rules.{rules}
 use Rattle.bench.proofs.kept_in.Goals as goal
 
 pub returns : goal.returns

@@ -1,6 +1,5 @@
 -- `bench_reads::bench_copy` meets its contract: it is the copying read, its number widened. Assumes nothing.
 use Rattle.bench_reads.proofs.Laws.{copied}
-use borrow.Author.Rules.{rules}
 use Rattle.bench_reads.proofs.bench_copy.Goals as goal
 
 pub returns : goal.returns

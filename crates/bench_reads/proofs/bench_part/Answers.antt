@@ -1,6 +1,5 @@
 -- `bench_reads::bench_part` meets its contract: the part that was read, by its length and first byte. Assumes nothing.
 use Rattle.bench_reads.proofs.Laws.{part_seen}
-use borrow.Author.Rules.{rules}
 use Rattle.bench_reads.proofs.bench_part.Goals as goal
 
 pub returns : goal.returns

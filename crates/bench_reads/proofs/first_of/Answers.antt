@@ -1,7 +1,6 @@
 -- `bench_reads::first_of` meets its contract: of an empty part `get_or` is its default. Assumes nothing.
 use mathlib.Core.Path.{sym}
 use lib.ListN.{get_or-eq_default}
-use borrow.Author.Rules.{rules}
 use Rattle.bench_reads.proofs.first_of.Goals as goal
 
 pub returns-else-part-gt0 : goal.returns-else-part-gt0

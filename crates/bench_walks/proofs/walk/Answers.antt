@@ -1,7 +1,6 @@
 -- `bench_walks::walk` meets its contract: what is begun is run to its end, a refused request changes nothing.
 -- Assumes nothing.
 use Rattle.bench_walks.proofs.Laws.{walked_begun, walked_refused}
-use borrow.Author.Rules.{rules}
 use Rattle.bench_walks.proofs.walk.Goals as goal
 
 pub returns-in-On : goal.returns-in-On

@@ -1,9 +1,7 @@
 -- `boards::begin` meets its contract. Assumes nothing.
 use mathlib.Core.Path.{sym, ap, ◌∙◌}
-use Rattle.walks.specs.declared.Begun.{Begun}
 use Rattle.boards.specs.Boards.{begun_turn}
 use Rattle.boards.specs.declared.Answer as A
-use borrow.Author.Rules.{rules}
 use Rattle.boards.proofs.begin.Goals as goal
 
 pub returns-in-On : goal.returns-in-On

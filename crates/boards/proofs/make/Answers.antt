@@ -1,9 +1,8 @@
 -- `boards::make` meets its contract: each call is the one of the model. Assumes nothing.
-use mathlib.Core.Path.{refl, ◌∙◌}
+use mathlib.Core.Path.{refl}
 use Rattle.boards.specs.Boards.{board_in}
 use Rattle.boards.specs.declared.Call.TheVariants.{Save, Format, Step, Read, ReadInto, Cut}
 use Rattle.boards.proofs.Laws.{save_made, format_made, read_made, into_made, cut_made, of_call}
-use borrow.Author.Rules.{rules}
 use Rattle.boards.proofs.make.Goals as goal
 
 pub returns-in-Save : goal.returns-in-Save

@@ -5,7 +5,6 @@ use mathlib.Core.Bool.{Bool, cond}
 use borrow.Author.Tests.{eq-eqb, ne_eqb}
 use Rattle.boards.specs.declared.Answer as A
 use Rattle.boards.specs.Boards.{read_answer}
-use borrow.Author.Rules.{rules}
 use Rattle.boards.proofs.read.Goals as goal
 
 pub returns-then-number-eq0 : goal.returns-then-number-eq0

@@ -1,6 +1,5 @@
 -- `boards::step` meets its contract. Assumes nothing.
 use Rattle.boards.proofs.Laws.{steps_made, no_walk}
-use borrow.Author.Rules.{rules}
 use Rattle.boards.proofs.step.Goals as goal
 
 pub returns-in-Empty : goal.returns-in-Empty

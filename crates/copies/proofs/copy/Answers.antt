@@ -1,10 +1,8 @@
 -- `copies::copy` meets its contract. The loop's invariant: the bytes before `done` are copied, the others as they were.
 -- Assumes nothing.
-use Prim.Native.Nat.{◌+◌, ◌-◌, ◌≤◌, min}
-use mathlib.Core.Path.{◌≡◌, refl}
-use mathlib.Core.List.{◌++◌}
+use Prim.Native.Nat.{◌+◌}
+use mathlib.Core.Path.{refl}
 use native.Mathlib.Omega.{arith}
-use lib.ListN.{length, take, drop}
 use Rattle.copies.proofs.Laws.{block_next, all_copied}
 use borrow.Author.Rules.{rules}
 use Rattle.copies.proofs.copy.Goals as goal
@@ -14,8 +12,7 @@ loop-done-init c = (search rules, (c.lesser-count.ensures, (refl, refl)))
 
 pub loop-done-preserved : goal.loop-done-preserved
 loop-done-preserved c =
-    let next = c.loop-done.done + c.lesser.result in
-    (
+    let next = c.loop-done.done + c.lesser.result in (
       search rules,
       (
         c.loop-done.invariant.1.0,

@@ -1,12 +1,9 @@
 -- `copies::copy` meets its contract. The loop's invariant: the bytes before `done` are copied, the others as they were.
 -- Assumes nothing.
-use Prim.Native.Nat.{◌+◌, ◌-◌, ◌≤◌, min}
-use mathlib.Core.Path.{◌≡◌, refl}
+use Prim.Native.Nat.{◌-◌, ◌≤◌, min}
+use mathlib.Core.Path.{◌≡◌}
 use mathlib.Core.List.{◌++◌}
-use native.Mathlib.Omega.{arith}
 use lib.ListN.{length, take, drop}
-use Rattle.copies.proofs.Laws.{block_next, all_copied}
-use borrow.Author.Rules.{rules}
 use Rattle.copies.proofs.copy.Given as goal
 
 abbrev pub invariant-loop-done : goal.invariant-loop-done

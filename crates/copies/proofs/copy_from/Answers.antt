@@ -1,7 +1,6 @@
 -- `copies::copy_from` meets its contract: the part that is lent has as many bytes as are copied. Assumes nothing.
 use native.Mathlib.Omega.{arith}
 use Rattle.copies.proofs.Laws.{block_placed}
-use borrow.Author.Rules.{rules}
 use Rattle.copies.proofs.copy_from.Goals as goal
 
 pub returns : goal.returns

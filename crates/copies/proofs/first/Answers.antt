@@ -2,7 +2,6 @@
 use mathlib.Core.Path.{sym}
 use native.Mathlib.Nat.{sub-zero}
 use lib.Seq.{take_all}
-use borrow.Author.Rules.{rules}
 use Rattle.copies.proofs.first.Goals as goal
 
 pub returns-then-count-buffer : goal.returns-then-count-buffer

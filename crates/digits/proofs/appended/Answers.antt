@@ -1,7 +1,6 @@
 -- `digits::appended` meets its contract. Assumes nothing.
 use Prim.Native.Nat.{◌+◌, ◌*◌}
 use native.Mathlib.Omega.{arith}
-use borrow.Author.Rules.{rules}
 use Rattle.digits.proofs.Laws.{bits_yes, bits_no}
 use Rattle.digits.proofs.appended.Goals as goal
 

@@ -1,13 +1,10 @@
 -- `digits::decode` meets its contract.
 -- The loop's invariant: the bytes put so far stand at the start of the buffer, and the rest is as it was.
 -- Assumes nothing.
-use Prim.Native.Nat.{◌+◌, ◌-◌, ◌/◌, ◌≤◌}
-use mathlib.Core.Path.{◌≡◌, refl, ◌∙◌}
-use mathlib.Core.List.{◌++◌}
+use Prim.Native.Nat.{◌/◌}
+use mathlib.Core.Path.{refl, ◌∙◌}
 use native.Mathlib.Omega.{arith}
-use lib.ListN.{length, take, drop, length-set}
-use borrow.Author.Rules.{rules}
-use Rattle.digits.specs.Digits.{bytes_of}
+use lib.ListN.{length, length-set}
 use Rattle.digits.proofs.Laws.{put_on, put_all, put_none}
 use Rattle.digits.proofs.decode.Goals as goal
 
@@ -19,16 +16,15 @@ pub loop-i-init : goal.loop-i-init
 loop-i-init c = (omega arith, (refl, refl))
 
 pub loop-i-preserved : goal.loop-i-preserved
-loop-i-preserved c =
-    (
-      omega arith,
-      (
-        length-set c.loop-i.into c.loop-i.i c.joined.result ∙ c.loop-i.invariant.1.0,
-        put_on c.args.digits.now c.args.into.now c.loop-i.into c.loop-i.i (length c.args.digits.now / 2) c.digit.result c.digit-in-loop-i.result
-            c.joined.result c.loop-i-test.true refl c.if-into-count.false
-            c.digit.ensures.value c.digit-in-loop-i.ensures.value c.joined.ensures c.loop-i.invariant.1.1,
-      ),
-    )
+loop-i-preserved c = (
+  omega arith,
+  (
+    length-set c.loop-i.into c.loop-i.i c.joined.result ∙ c.loop-i.invariant.1.0,
+    put_on c.args.digits.now c.args.into.now c.loop-i.into c.loop-i.i (length c.args.digits.now / 2) c.digit.result c.digit-in-loop-i.result
+        c.joined.result c.loop-i-test.true refl c.if-into-count.false
+        c.digit.ensures.value c.digit-in-loop-i.ensures.value c.joined.ensures c.loop-i.invariant.1.1,
+  ),
+)
 
 pub returns : goal.returns
 returns c =

@@ -1,14 +1,11 @@
 -- `digits::decode` meets its contract.
 -- The loop's invariant: the bytes put so far stand at the start of the buffer, and the rest is as it was.
 -- Assumes nothing.
-use Prim.Native.Nat.{◌+◌, ◌-◌, ◌/◌, ◌≤◌}
-use mathlib.Core.Path.{◌≡◌, refl, ◌∙◌}
+use Prim.Native.Nat.{◌-◌, ◌≤◌}
+use mathlib.Core.Path.{◌≡◌}
 use mathlib.Core.List.{◌++◌}
-use native.Mathlib.Omega.{arith}
-use lib.ListN.{length, take, drop, length-set}
-use borrow.Author.Rules.{rules}
+use lib.ListN.{length, take, drop}
 use Rattle.digits.specs.Digits.{bytes_of}
-use Rattle.digits.proofs.Laws.{put_on, put_all, put_none}
 use Rattle.digits.proofs.decode.Given as goal
 
 abbrev pub invariant-loop-i : goal.invariant-loop-i

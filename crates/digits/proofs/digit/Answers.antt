@@ -1,6 +1,5 @@
 -- `digits::digit` meets its contract. Assumes nothing.
 use native.Mathlib.Omega.{arith}
-use borrow.Author.Rules.{rules}
 use Rattle.digits.proofs.Laws.{within_low, within_high, digit_decimal, digit_capital, digit_small, digit_none}
 use Rattle.digits.proofs.digit.Goals as goal
 

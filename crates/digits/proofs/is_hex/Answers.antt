@@ -1,9 +1,6 @@
 -- `digits::is_hex` meets its contract. The loop's invariant: all are digits if those left are. Assumes nothing.
-use Prim.Native.Nat.{◌-◌, ◌≤◌}
-use mathlib.Core.Path.{◌≡◌, refl}
+use mathlib.Core.Path.{refl}
 use native.Mathlib.Omega.{arith}
-use lib.ListN.{length, drop}
-use borrow.Author.Rules.{rules}
 use Rattle.digits.specs.Digits.{all_hex}
 use Rattle.digits.proofs.Laws.{hex_bad, hex_on, hex_all}
 use Rattle.digits.proofs.is_hex.Goals as goal
@@ -17,12 +14,11 @@ returns-then-digit-gt15 c =
     c.digit.ensures.value c.if-digit-gt15.true c.loop-i.invariant.1
 
 pub loop-i-preserved : goal.loop-i-preserved
-loop-i-preserved c =
-    (
-      omega arith,
-      hex_on c.args.word.now c.loop-i.i c.digit.result (all_hex c.args.word.now) c.loop-i-test.true
-          c.digit.ensures.value c.if-digit-gt15.false c.loop-i.invariant.1,
-    )
+loop-i-preserved c = (
+  omega arith,
+  hex_on c.args.word.now c.loop-i.i c.digit.result (all_hex c.args.word.now) c.loop-i-test.true
+      c.digit.ensures.value c.if-digit-gt15.false c.loop-i.invariant.1,
+)
 
 pub returns : goal.returns
 returns c =

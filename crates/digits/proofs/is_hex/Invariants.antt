@@ -1,11 +1,8 @@
 -- `digits::is_hex` meets its contract. The loop's invariant: all are digits if those left are. Assumes nothing.
 use Prim.Native.Nat.{◌-◌, ◌≤◌}
-use mathlib.Core.Path.{◌≡◌, refl}
-use native.Mathlib.Omega.{arith}
+use mathlib.Core.Path.{◌≡◌}
 use lib.ListN.{length, drop}
-use borrow.Author.Rules.{rules}
 use Rattle.digits.specs.Digits.{all_hex}
-use Rattle.digits.proofs.Laws.{hex_bad, hex_on, hex_all}
 use Rattle.digits.proofs.is_hex.Given as goal
 
 abbrev pub invariant-loop-i : goal.invariant-loop-i

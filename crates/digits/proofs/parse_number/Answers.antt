@@ -1,12 +1,8 @@
 -- `digits::parse_number` meets its contract.
 -- The loop's invariant: the number read from here on is the number of all.
 -- Assumes nothing.
-use Prim.Native.Nat.{◌-◌, ◌≤◌}
-use mathlib.Core.Path.{◌≡◌}
 use native.Mathlib.Omega.{arith}
-use lib.ListN.{length, drop}
-use borrow.Author.Rules.{rules}
-use Rattle.digits.specs.Digits.{number_from, number_of}
+use Rattle.digits.specs.Digits.{number_of}
 use Rattle.digits.proofs.Laws.{number_none, number_some, number_bad, number_on, number_value, number_past}
 use Rattle.digits.proofs.parse_number.Goals as goal
 
@@ -22,16 +18,15 @@ returns-then-next-gt9 c =
     c.digit-next.ensures.value c.if-next-gt9.true c.loop-i.invariant.1.1
 
 pub loop-i-preserved : goal.loop-i-preserved
-loop-i-preserved c =
-    (
-      omega arith,
-      (
-        c.appended-value.ensures.upper_bound,
-        number_on c.args.word.now c.loop-i.i c.loop-i.value c.digit-next.result c.appended-value.result (number_of c.args.word.now)
-            c.loop-i-test.true c.digit-next.ensures.value c.if-next-gt9.false
-            c.appended-value.ensures.value c.loop-i.invariant.1.1,
-      ),
-    )
+loop-i-preserved c = (
+  omega arith,
+  (
+    c.appended-value.ensures.upper_bound,
+    number_on c.args.word.now c.loop-i.i c.loop-i.value c.digit-next.result c.appended-value.result (number_of c.args.word.now)
+        c.loop-i-test.true c.digit-next.ensures.value c.if-next-gt9.false
+        c.appended-value.ensures.value c.loop-i.invariant.1.1,
+  ),
+)
 
 pub returns-then-value-lt-PAST_BITS : goal.returns-then-value-lt-PAST_BITS
 returns-then-value-lt-PAST_BITS c =

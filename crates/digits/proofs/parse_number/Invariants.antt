@@ -3,11 +3,8 @@
 -- Assumes nothing.
 use Prim.Native.Nat.{◌-◌, ◌≤◌}
 use mathlib.Core.Path.{◌≡◌}
-use native.Mathlib.Omega.{arith}
 use lib.ListN.{length, drop}
-use borrow.Author.Rules.{rules}
 use Rattle.digits.specs.Digits.{number_from, number_of}
-use Rattle.digits.proofs.Laws.{number_none, number_some, number_bad, number_on, number_value, number_past}
 use Rattle.digits.proofs.parse_number.Given as goal
 
 abbrev pub invariant-loop-i : goal.invariant-loop-i

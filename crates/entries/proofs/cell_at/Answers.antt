@@ -1,7 +1,6 @@
 -- `entries::cell_at` meets its contract: a save has image cells, a format none. Assumes nothing.
 use mathlib.Core.Path.{◌∙◌}
 use Rattle.plans.proofs.Spots.{list_cell, cell_save, cell_format}
-use borrow.Author.Rules.{rules}
 use Rattle.entries.proofs.cell_at.Goals as goal
 
 pub returns-in-Save : goal.returns-in-Save

@@ -1,7 +1,6 @@
 -- `entries::clean_state` meets its contract: the live side says the line. Assumes nothing.
 use mathlib.Core.Path.{sym, ap, ◌∙◌}
 use Rattle.plans.specs.Plans.{clean}
-use borrow.Author.Rules.{rules}
 use Rattle.entries.proofs.clean_state.Goals as goal
 
 pub returns-in-On : goal.returns-in-On

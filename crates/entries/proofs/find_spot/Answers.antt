@@ -2,7 +2,6 @@
 use native.Mathlib.Omega.{arith}
 use Rattle.plans.specs.declared.Request.TheVariants.{Save, Format}
 use Rattle.plans.proofs.Spots.{beyond, count_of, spot_of_lem, spot_format}
-use borrow.Author.Rules.{rules}
 use Rattle.entries.proofs.find_spot.Goals as goal
 
 pub returns-then-step_count-place : goal.returns-then-step_count-place

@@ -1,6 +1,5 @@
 -- `entries::first_entry` meets its contract: the step is made at the line where the save begins. Assumes nothing.
 use Rattle.plans.proofs.Laws.{head_entry}
-use borrow.Author.Rules.{rules}
 use Rattle.entries.proofs.first_entry.Goals as goal
 
 pub returns : goal.returns

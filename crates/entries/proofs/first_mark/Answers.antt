@@ -3,7 +3,6 @@ use mathlib.Core.Path.{◌∙◌}
 use native.Mathlib.Omega.{arith}
 use Rattle.pages.specs.declared.Live.TheVariants.{Nowhere}
 use Rattle.plans.proofs.Laws.{mark_at}
-use borrow.Author.Rules.{rules}
 use Rattle.entries.proofs.first_mark.Goals as goal
 
 pub returns-then-place-eq0 : goal.returns-then-place-eq0

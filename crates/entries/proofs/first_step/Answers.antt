@@ -7,7 +7,6 @@ use Rattle.pages.specs.Pages.{live_of}
 use Rattle.steps.specs.declared.Step.{Step}
 use Rattle.plans.specs.Plans.{ready}
 use Rattle.plans.specs.Plans.{nothing}
-use borrow.Author.Rules.{rules}
 use Rattle.entries.proofs.first_step.Goals as goal
 
 abbrev first_of : State → Step

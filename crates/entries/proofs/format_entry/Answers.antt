@@ -2,7 +2,6 @@
 use mathlib.Core.Path.{◌∙◌}
 use native.Mathlib.Omega.{arith}
 use Rattle.plans.proofs.Laws.{format_first, format_later}
-use borrow.Author.Rules.{rules}
 use Rattle.entries.proofs.format_entry.Goals as goal
 
 pub returns-then-place-eq0 : goal.returns-then-place-eq0

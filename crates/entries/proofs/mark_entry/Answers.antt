@@ -4,7 +4,6 @@ use lib.ListN.{get_or}
 use Rattle.pages.specs.declared.Live.{Live}
 use Rattle.plans.specs.Plans.{marks}
 use Rattle.plans.specs.Plans.{nothing}
-use borrow.Author.Rules.{rules}
 use Rattle.entries.proofs.mark_entry.Goals as goal
 
 pub returns-in-On : goal.returns-in-On

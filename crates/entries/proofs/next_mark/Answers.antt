@@ -7,7 +7,6 @@ use Rattle.pages.specs.declared.State.{State}
 use Rattle.pages.specs.declared.Live.TheVariants.{On}
 use Rattle.plans.specs.Plans.{entry, committing, mark}
 use Rattle.plans.proofs.Laws.{mark_at}
-use borrow.Author.Rules.{rules}
 use Rattle.entries.proofs.next_mark.Goals as goal
 
 pub returns-then-place-eq0 : goal.returns-then-place-eq0

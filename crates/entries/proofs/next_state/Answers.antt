@@ -2,7 +2,6 @@
 use mathlib.Core.Path.{sym, ap}
 use Rattle.pages.specs.Pages.{live_of}
 use Rattle.plans.proofs.Laws.{next_of}
-use borrow.Author.Rules.{rules}
 use Rattle.entries.proofs.next_state.Goals as goal
 
 pub returns-in-S0 : goal.returns-in-S0

@@ -3,7 +3,6 @@
 use mathlib.Core.Path.{◌∙◌}
 use native.Mathlib.Omega.{arith}
 use Rattle.plans.proofs.Laws.{ready_first, ready_none, ready_second, ready_third}
-use borrow.Author.Rules.{rules}
 use Rattle.entries.proofs.ready_entry.Goals as goal
 
 pub returns-then-place-eq0 : goal.returns-then-place-eq0

@@ -10,7 +10,6 @@ use Rattle.plans.specs.Counts.{added}
 use Rattle.plans.specs.Spots.{spot_cell}
 use Rattle.plans.proofs.Counts.{ready_length}
 use Rattle.plans.proofs.Spots.{spot_ready, spot_cell_lem, spot_mark}
-use borrow.Author.Rules.{rules}
 use Rattle.entries.proofs.save_cell.Goals as goal
 
 pub overflow_sub-before : goal.overflow_sub-before

@@ -5,7 +5,6 @@ use Rattle.pages.proofs.Laws.{live_same}
 use Rattle.plans.proofs.Counts.{ready_length}
 use Rattle.plans.proofs.Laws.{ready_inside}
 use Rattle.plans.proofs.Spots.{spot_ready, spot_cell_lem, spot_mark}
-use borrow.Author.Rules.{rules}
 use Rattle.entries.proofs.save_spot.Goals as goal
 
 pub overflow_sub-before : goal.overflow_sub-before

@@ -1,6 +1,5 @@
 -- `entries::spot_at` meets its contract: what the look-up finds is what the list has there. Assumes nothing.
 use Rattle.plans.proofs.Spots.{spot_entry}
-use borrow.Author.Rules.{rules}
 use Rattle.entries.proofs.spot_at.Goals as goal
 
 pub returns : goal.returns

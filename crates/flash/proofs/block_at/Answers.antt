@@ -1,6 +1,6 @@
 -- `flash::block_at` meets its contract. The loop's invariant: the bytes from `at` on are erased exactly if the eights
 -- before the k-th, joined, have every bit set and the bytes from the k-th on are erased. Assumes nothing.
-use Prim.Native.Nat.{ℕ, ◌+◌, ◌*◌, ◌-◌, ◌≤◌}
+use Prim.Native.Nat.{ℕ, ◌+◌, ◌*◌}
 use mathlib.Core.Bool.{◌&&◌}
 use mathlib.Core.Path.{◌≡◌, sym, ap, ◌∙◌}
 use native.Mathlib.Omega.{arith}
@@ -14,11 +14,10 @@ use Rattle.flash.proofs.Laws.{eight_joined}
 use Rattle.flash.proofs.block_at.Goals as goal
 
 pub loop-k-init : goal.loop-k-init
-loop-k-init c =
-    (
-      search rules,
-      (ap (λ (j : ℕ). is_erased (drop j c.args.page.now)) (sym (add-zero c.args.at)), search rules),
-    )
+loop-k-init c = (
+  search rules,
+  (ap (λ (j : ℕ). is_erased (drop j c.args.page.now)) (sym (add-zero c.args.at)), search rules),
+)
 
 pub loop-k-preserved : goal.loop-k-preserved
 loop-k-preserved c =

@@ -1,16 +1,11 @@
 -- `flash::block_at` meets its contract. The loop's invariant: the bytes from `at` on are erased exactly if the eights
 -- before the k-th, joined, have every bit set and the bytes from the k-th on are erased. Assumes nothing.
-use Prim.Native.Nat.{ℕ, ◌+◌, ◌*◌, ◌-◌, ◌≤◌}
+use Prim.Native.Nat.{◌+◌, ◌*◌, ◌-◌, ◌≤◌}
 use mathlib.Core.Bool.{◌&&◌}
-use mathlib.Core.Path.{◌≡◌, sym, ap, ◌∙◌}
-use native.Mathlib.Omega.{arith}
-use native.Mathlib.Nat.{add-zero}
-use lib.Bits.{and_le_l}
+use mathlib.Core.Path.{◌≡◌}
 use lib.Dec.{eqb}
 use lib.ListN.{drop}
-use borrow.Author.Rules.{rules}
 use Rattle.flash.specs.Flash.{is_erased}
-use Rattle.flash.proofs.Laws.{eight_joined}
 use Rattle.flash.proofs.block_at.Given as goal
 
 abbrev pub invariant-loop-k : goal.invariant-loop-k

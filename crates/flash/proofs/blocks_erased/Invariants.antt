@@ -1,11 +1,9 @@
 -- `flash::blocks_erased` meets its contract. The loop's invariant: the blocks left lie in the page, and the bytes
 -- passed are FF, so that the page is erased exactly if those from `at` on are. Assumes nothing.
 use Prim.Native.Nat.{◌+◌, ◌*◌, ◌≤◌}
-use mathlib.Core.Path.{◌≡◌, refl, ◌∙◌}
+use mathlib.Core.Path.{◌≡◌}
 use lib.ListN.{length, drop}
-use borrow.Author.Rules.{rules}
 use Rattle.flash.specs.Flash.{is_erased}
-use Rattle.flash.proofs.Laws.{set_passed, unset_used, not_used}
 use Rattle.flash.proofs.blocks_erased.Given as goal
 
 abbrev pub invariant-loop-left : goal.invariant-loop-left

@@ -1,6 +1,5 @@
 -- `flash::cell_at` meets its contract: at each `return` the tests that led there say what stands at the place.
 -- Assumes nothing.
-use borrow.Author.Rules.{rules}
 use native.Mathlib.Omega.{arith}
 use mathlib.Core.Path.{sym, ap, ◌∙◌}
 use mathlib.Core.Option.{some}

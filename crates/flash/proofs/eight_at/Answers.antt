@@ -2,7 +2,6 @@
 -- byte is FF. Assumes nothing.
 use native.Mathlib.Omega.{arith}
 use Rattle.flash.proofs.Laws.{eight_next}
-use borrow.Author.Rules.{rules}
 use Rattle.flash.proofs.eight_at.Goals as goal
 
 pub returns : goal.returns

@@ -1,10 +1,8 @@
 -- `flash::erase` meets its contract. The loop's invariant: the bytes before i are FF, the others as they were.
 -- Assumes nothing.
-use Prim.Native.Nat.{◌≤◌, ◌-◌}
-use mathlib.Core.Path.{◌≡◌, refl}
-use mathlib.Core.List.{◌++◌}
+use mathlib.Core.Path.{refl}
 use native.Mathlib.Omega.{arith}
-use lib.ListN.{length, drop, replicate, length-set}
+use lib.ListN.{length-set}
 use borrow.Author.Rules.{rules}
 use Rattle.flash.proofs.Laws.{fill_step, filled}
 use Rattle.flash.proofs.erase.Goals as goal

@@ -1,12 +1,9 @@
 -- `flash::erase` meets its contract. The loop's invariant: the bytes before i are FF, the others as they were.
 -- Assumes nothing.
 use Prim.Native.Nat.{◌≤◌, ◌-◌}
-use mathlib.Core.Path.{◌≡◌, refl}
+use mathlib.Core.Path.{◌≡◌}
 use mathlib.Core.List.{◌++◌}
-use native.Mathlib.Omega.{arith}
-use lib.ListN.{length, drop, replicate, length-set}
-use borrow.Author.Rules.{rules}
-use Rattle.flash.proofs.Laws.{fill_step, filled}
+use lib.ListN.{length, drop, replicate}
 use Rattle.flash.proofs.erase.Given as goal
 
 abbrev pub invariant-loop-i : goal.invariant-loop-i

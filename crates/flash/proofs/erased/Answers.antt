@@ -1,6 +1,5 @@
 -- `flash::erased` meets its contract: of no bytes and of a first byte that isn't FF the answer is known, and of all
 -- others the blocks tell. Assumes nothing.
-use borrow.Author.Rules.{rules}
 use Rattle.flash.proofs.Laws.{none_erased, first_used}
 use Rattle.flash.proofs.erased.Goals as goal
 

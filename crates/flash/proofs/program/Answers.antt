@@ -1,6 +1,5 @@
 -- `flash::program` meets its contract. The look at the cell says whether the place is one and what it holds; the test
 -- of its bits says whether the step fits, and then both bytes are stored. Assumes nothing.
-use borrow.Author.Rules.{rules}
 use Prim.Native.Nat.{◌+◌, ◌<◌}
 use mathlib.Core.Path.{sym}
 use native.Mathlib.Omega.{arith}

@@ -1,11 +1,8 @@
 -- `flash::used_from` meets its contract. The invariant of both loops: the bytes passed are FF, so that those from
 -- `from` on are erased exactly if those not yet passed are. Assumes nothing.
-use Prim.Native.Nat.{◌-◌, ◌≤◌}
 use mathlib.Core.Bool.{not}
-use mathlib.Core.Path.{◌≡◌, refl, ap, ◌∙◌}
-use lib.ListN.{length, drop}
+use mathlib.Core.Path.{refl, ap, ◌∙◌}
 use borrow.Author.Rules.{rules}
-use Rattle.flash.specs.Flash.{is_erased}
 use Rattle.flash.proofs.Laws.{byte_next, set_passed, unset_used, all_passed}
 use Rattle.flash.proofs.used_from.Goals as goal
 

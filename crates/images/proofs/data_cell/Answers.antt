@@ -5,7 +5,6 @@ use native.Mathlib.Omega.{arith}
 use Rattle.flash.specs.Flash.{cell_of}
 use Rattle.pages.specs.declared.PageOffset.{PageOffset}
 use Rattle.images.proofs.Laws.{data_before, data_from}
-use borrow.Author.Rules.{rules}
 use Rattle.images.proofs.data_cell.Goals as goal
 
 pub returns-then-place-start : goal.returns-then-place-start

@@ -4,7 +4,6 @@ use mathlib.Core.Path.{sym}
 use Rattle.flash.specs.Flash.{cell_in}
 use Rattle.flash.proofs.Laws.{told}
 use Rattle.images.proofs.Laws.{new_data, new_kept, new_blank}
-use borrow.Author.Rules.{rules}
 use Rattle.images.proofs.new_cell.Goals as goal
 
 pub returns-in-Holds : goal.returns-in-Holds

@@ -6,7 +6,6 @@ use lib.Dec.{eqb}
 use Rattle.plans.specs.declared.Request.{Request}
 use Rattle.plans.specs.Plans.{counts}
 use Rattle.lines.proofs.Laws.{counts_none, counts_one, counts_eight, counts_format}
-use borrow.Author.Rules.{rules}
 use Rattle.lines.proofs.counts_erased.Goals as goal
 
 pub returns-then-line-eq0 : goal.returns-then-line-eq0

@@ -2,7 +2,6 @@
 -- Assumes nothing.
 use mathlib.Core.Path.{sym, ◌∙◌}
 use Rattle.lines.proofs.Laws.{erased_counts, erased_idle}
-use borrow.Author.Rules.{rules}
 use Rattle.lines.proofs.find_erased.Goals as goal
 
 pub returns-then-counts_erased : goal.returns-then-counts_erased

@@ -4,7 +4,6 @@ use native.Mathlib.Omega.{arith}
 use lib.Dec.{eqb}
 use Rattle.pages.specs.Pages.{word_of, row_of}
 use Rattle.lines.proofs.Words.{left_differs, right_decides}
-use borrow.Author.Rules.{rules}
 use Rattle.lines.proofs.has_words.Goals as goal
 
 pub returns-then-word-left_word : goal.returns-then-word-left_word

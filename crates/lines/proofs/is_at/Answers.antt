@@ -4,7 +4,6 @@ use mathlib.Core.Path.{◌∙◌}
 use native.Mathlib.Omega.{arith}
 use Rattle.pages.specs.Pages.{status_of}
 use Rattle.lines.proofs.Words.{none_alike, row_decides}
-use borrow.Author.Rules.{rules}
 use Rattle.lines.proofs.is_at.Goals as goal
 
 pub returns-then-line-eq0 : goal.returns-then-line-eq0

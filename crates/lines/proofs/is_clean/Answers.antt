@@ -2,7 +2,6 @@
 use Rattle.pages.specs.declared.Side.TheVariants.{Left, Right}
 use Rattle.plans.proofs.Laws.{on_side_lem}
 use Rattle.lines.proofs.Words.{clean_none, clean_side}
-use borrow.Author.Rules.{rules}
 use Rattle.lines.proofs.is_clean.Goals as goal
 
 pub returns-in-Nowhere : goal.returns-in-Nowhere

@@ -7,7 +7,6 @@ use lib.Dec.{eqb}
 use Rattle.pages.specs.declared.State.TheVariants.{S0}
 use Rattle.pages.specs.Pages.{status_of, Standing}
 use Rattle.lines.proofs.Words.{spare_meets, no_spare, at_none}
-use borrow.Author.Rules.{rules}
 use Rattle.lines.proofs.is_none.Goals as goal
 
 pub returns-then-right-lt4 : goal.returns-then-right-lt4

@@ -4,7 +4,6 @@ use borrow.Author.Tests.{not-true, not-false}
 use Rattle.pages.specs.declared.Side.TheVariants.{Left, Right}
 use Rattle.plans.proofs.Laws.{on_side_lem}
 use Rattle.lines.proofs.Laws.{none_first, none_second, other_erased}
-use borrow.Author.Rules.{rules}
 use Rattle.lines.proofs.others_erased.Goals as goal
 
 pub returns-then-not-erased : goal.returns-then-not-erased

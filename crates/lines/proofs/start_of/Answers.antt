@@ -2,7 +2,6 @@
 use mathlib.Core.Path.{ap}
 use Rattle.lines.specs.Starts.{begins_in}
 use Rattle.lines.proofs.Laws.{looked}
-use borrow.Author.Rules.{rules}
 use Rattle.lines.proofs.start_of.Goals as goal
 
 pub returns : goal.returns

@@ -1,7 +1,6 @@
 -- `pages::short_word` meets its contract: the four bytes are those of the page. Assumes nothing.
 use mathlib.Core.Path.{◌∙◌}
 use Rattle.pages.specs.Pages.{word_of}
-use borrow.Author.Rules.{rules}
 use Rattle.pages.proofs.short_word.Goals as goal
 
 pub returns : goal.returns

@@ -1,7 +1,6 @@
 -- `pages::word` meets its contract: the four bytes are those of the page, read one by one where it is shorter.
 -- Assumes nothing.
 use Rattle.pages.specs.Pages.{word_of}
-use borrow.Author.Rules.{rules}
 use Rattle.pages.proofs.word.Goals as goal
 
 pub returns : goal.returns

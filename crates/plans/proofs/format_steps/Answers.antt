@@ -1,10 +1,9 @@
 -- `plans::format_steps` meets its contract: none exactly at line 0 with both pages erased. Assumes nothing.
 use mathlib.Core.Bool.{true, false}
 use native.Mathlib.Omega.{arith}
-use borrow.Author.Tests.{not-true, not-false, eq-eqb, ne_eqb}
+use borrow.Author.Tests.{eq-eqb, ne_eqb}
 use Rattle.pages.specs.Pages.{line_of}
 use Rattle.plans.proofs.Laws.{format_written, format_erased}
-use borrow.Author.Rules.{rules}
 use Rattle.plans.proofs.format_steps.Goals as goal
 
 pub returns-then-not-erased : goal.returns-then-not-erased

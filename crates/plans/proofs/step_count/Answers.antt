@@ -6,7 +6,6 @@ use Rattle.plans.specs.declared.Request.{Request}
 use Rattle.plans.specs.declared.Request.TheVariants.{Save}
 use Rattle.plans.specs.Counts.{step_count}
 use Rattle.plans.proofs.Counts.{bound}
-use borrow.Author.Rules.{rules}
 use Rattle.plans.proofs.step_count.Goals as goal
 
 pub overflow_add-result : goal.overflow_add-result

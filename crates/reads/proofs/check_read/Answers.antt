@@ -2,7 +2,6 @@
 use Rattle.flash.proofs.Laws.{told}
 use Rattle.reads.specs.Reads.{found_in}
 use Rattle.reads.proofs.Laws.{found_number}
-use borrow.Author.Rules.{rules}
 use Rattle.reads.proofs.check_read.Goals as goal
 
 pub returns-in-Refused : goal.returns-in-Refused

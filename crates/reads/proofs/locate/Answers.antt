@@ -3,7 +3,6 @@ use mathlib.Core.Path.{sym, ◌∙◌}
 use Rattle.requests.specs.Numbers.{number_in}
 use Rattle.flash.proofs.Laws.{told}
 use Rattle.reads.proofs.Laws.{found_live, found_refused, found_none, found_on}
-use borrow.Author.Rules.{rules}
 use Rattle.reads.proofs.locate.Goals as goal
 
 pub returns-in-Refused : goal.returns-in-Refused

@@ -1,6 +1,5 @@
 -- `reads::part` meets its contract: the side says which page the part is of. Assumes nothing.
 use Rattle.reads.proofs.Laws.{side_part}
-use borrow.Author.Rules.{rules}
 use Rattle.reads.proofs.part.Goals as goal
 
 pub returns-in-Left : goal.returns-in-Left

@@ -6,7 +6,6 @@ use Rattle.requests.proofs.Laws.{never_none}
 use Rattle.flash.proofs.Laws.{told}
 use Rattle.reads.specs.Reads.{found_in}
 use Rattle.reads.proofs.Laws.{no_part, on_legal, on_part}
-use borrow.Author.Rules.{rules}
 use Rattle.reads.proofs.read.Goals as goal
 
 pub part-requires : goal.part-requires

@@ -5,7 +5,6 @@ use native.Mathlib.Omega.{arith}
 use Rattle.flash.proofs.Laws.{told}
 use Rattle.reads.specs.Reads.{found_in}
 use Rattle.reads.proofs.Laws.{on_legal, kept, blank, given}
-use borrow.Author.Rules.{rules}
 use Rattle.reads.proofs.read_into.Goals as goal
 
 pub part-requires : goal.part-requires

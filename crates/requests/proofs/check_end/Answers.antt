@@ -1,7 +1,6 @@
 -- `requests::check_end` meets its contract: the start is tested first, so that the difference doesn't wrap.
 -- Assumes nothing.
 use native.Mathlib.Omega.{arith}
-use borrow.Author.Rules.{rules}
 use Rattle.requests.proofs.Laws.{four, not_four, starts_past, ends_past, ends_inside}
 use Rattle.requests.proofs.check_end.Goals as goal
 

@@ -1,6 +1,5 @@
 -- `requests::check_request` meets its contract: the lengths that a page may have are document 01's. Assumes nothing.
 use Rattle.requests.specs.Numbers.{request_number}
-use borrow.Author.Rules.{rules}
 use Rattle.requests.proofs.check_request.Goals as goal
 
 pub returns : goal.returns

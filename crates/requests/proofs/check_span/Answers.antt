@@ -2,8 +2,7 @@
 -- Assumes nothing.
 use mathlib.Core.Path.{◌∙◌}
 use native.Mathlib.Omega.{arith}
-use borrow.Author.Rules.{rules}
-use Rattle.requests.proofs.Laws.{ two, three, not_three, offset_odd, length_odd, both_even, in_management, in_image_lem, }
+use Rattle.requests.proofs.Laws.{two, three, not_three, offset_odd, length_odd, both_even, in_management, in_image_lem}
 use Rattle.requests.proofs.check_span.Goals as goal
 
 pub returns-then-start-ne0 : goal.returns-then-start-ne0

@@ -3,7 +3,6 @@ use Rattle.requests.proofs.Laws.{pages_first, pages_then}
 use Rattle.requests.specs.Numbers.{number_in}
 use mathlib.Core.Path.{sym, ◌∙◌}
 use Rattle.flash.proofs.Laws.{told}
-use borrow.Author.Rules.{rules}
 use Rattle.requests.proofs.check_within.Goals as goal
 
 pub returns-in-Refused : goal.returns-in-Refused

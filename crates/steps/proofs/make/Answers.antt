@@ -2,7 +2,6 @@
 use Rattle.pages.specs.declared.Side.TheVariants.{Left, Right}
 use Rattle.steps.specs.Steps.{marked, blanked}
 use Rattle.steps.proofs.Laws.{blank, on_page_lem, mark_tried, image_tried, erase_tried}
-use borrow.Author.Rules.{rules}
 use Rattle.steps.proofs.make.Goals as goal
 
 pub returns-in-Left : goal.returns-in-Left

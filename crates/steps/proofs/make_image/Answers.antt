@@ -2,7 +2,6 @@
 use Rattle.pages.specs.declared.Side.TheVariants.{Left, Right}
 use Rattle.steps.specs.Steps.{imaged, tried}
 use Rattle.steps.proofs.Laws.{on_page_lem}
-use borrow.Author.Rules.{rules}
 use Rattle.steps.proofs.make_image.Goals as goal
 
 pub returns-in-Left : goal.returns-in-Left

@@ -1,7 +1,6 @@
 -- `steps::program_cell` meets its contract: the image is lent, and comes back to its place. Assumes nothing.
 use native.Mathlib.Omega.{arith}
 use Rattle.steps.proofs.Laws.{image_back, no_image_lem}
-use borrow.Author.Rules.{rules}
 use Rattle.steps.proofs.program_cell.Goals as goal
 
 pub returns-then-page-start : goal.returns-then-page-start

@@ -2,7 +2,6 @@
 -- is one in the rows that are left (`left_1` to `left_9`). Assumes nothing.
 use mathlib.Core.Path.{◌≡◌, sym, ◌∙◌}
 use lib.ListN.{drop}
-use borrow.Author.Rules.{rules}
 use Rattle.pages.specs.Pages.{table, look}
 use Rattle.pages.proofs.Laws.{passed, held}
 use Rattle.table.proofs.look_up.Goals as goal

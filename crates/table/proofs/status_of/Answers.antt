@@ -1,7 +1,6 @@
 -- `table::status_of` meets its contract: it looks up the words of the two pages. Assumes nothing.
 use mathlib.Core.Path.{ap, ◌∙◌}
 use Rattle.pages.specs.Pages.{table, look, status_of, standing}
-use borrow.Author.Rules.{rules}
 use Rattle.table.proofs.status_of.Goals as goal
 
 pub returns : goal.returns

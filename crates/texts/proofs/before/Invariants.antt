@@ -3,12 +3,8 @@
 -- Assumes nothing.
 use Prim.Native.Nat.{◌+◌, ◌-◌, ◌≤◌}
 use mathlib.Core.Path.{◌≡◌}
-use native.Mathlib.Omega.{arith}
-use lib.ListN.{length, get_or, drop}
-use borrow.Author.Rules.{rules}
-use borrow.Author.Tests.{eq-eqb, ne_eqb}
+use lib.ListN.{length, drop}
 use Rattle.texts.specs.Texts.{before_first, is}
-use Rattle.texts.proofs.Laws.{before_hit, before_on, before_all}
 use Rattle.texts.proofs.before.Given as goal
 
 abbrev pub invariant-loop-i : goal.invariant-loop-i

@@ -1,5 +1,4 @@
 -- `texts::line_at` meets its contract. Assumes nothing.
-use borrow.Author.Rules.{rules}
 use Rattle.texts.proofs.Laws.{no_line, line_is}
 use Rattle.texts.proofs.line_at.Goals as goal
 

@@ -10,10 +10,16 @@ returns-then-size-from c =
 
 pub returns-then-end-size : goal.returns-then-end-size
 returns-then-end-size c =
-    record { value = next_more c.args.text.now c.args.from c.before-2.result
-          c.before-2.ensures.value c.if-end-size.true; upper_bound = (search rules, search rules) }
+    record {
+      value = next_more c.args.text.now c.args.from c.before-2.result
+          c.before-2.ensures.value c.if-end-size.true;
+      upper_bound = (search rules, search rules);
+    }
 
 pub returns-else-end-size : goal.returns-else-end-size
 returns-else-end-size c =
-    record { value = next_last c.args.text.now c.args.from c.before-2.result
-          c.before-2.ensures.value c.if-size-from.false c.if-end-size.false; upper_bound = (search rules, search rules) }
+    record {
+      value = next_last c.args.text.now c.args.from c.before-2.result
+          c.before-2.ensures.value c.if-size-from.false c.if-end-size.false;
+      upper_bound = (search rules, search rules);
+    }

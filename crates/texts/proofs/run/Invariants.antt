@@ -2,12 +2,9 @@
 -- The loop's invariant: what is passed and the run of the rest make the run of all.
 -- Assumes nothing.
 use Prim.Native.Nat.{◌+◌, ◌-◌, ◌≤◌}
-use mathlib.Core.Path.{◌≡◌, ◌∙◌}
-use native.Mathlib.Omega.{arith}
-use lib.ListN.{length, get_or, drop}
-use borrow.Author.Rules.{rules}
+use mathlib.Core.Path.{◌≡◌}
+use lib.ListN.{length, drop}
 use Rattle.texts.specs.Texts.{before_first, ending}
-use Rattle.texts.proofs.Laws.{before_hit, before_on, before_all, ending_is}
 use Rattle.texts.proofs.run.Given as goal
 
 abbrev pub invariant-loop-i : goal.invariant-loop-i

@@ -3,12 +3,9 @@
 -- Assumes nothing.
 use Prim.Native.Nat.{◌-◌, ◌≤◌}
 use mathlib.Core.Path.{◌≡◌}
-use mathlib.Core.Logic.{⊎_elim}
-use native.Mathlib.Omega.{arith}
 use lib.ListN.{length, drop}
-use borrow.Author.Rules.{rules}
 use Rattle.texts.specs.Texts.{used}
-use Rattle.texts.proofs.Laws.{over, used_first, used_word, used_blank, used_all}
+use Rattle.texts.proofs.Laws.{over}
 use Rattle.texts.proofs.trimmed.Given as goal
 
 abbrev pub invariant-loop-i : goal.invariant-loop-i

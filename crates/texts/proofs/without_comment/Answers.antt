@@ -1,6 +1,5 @@
 -- `texts::without_comment` meets its contract. Assumes nothing.
 use mathlib.Core.Path.{◌∙◌}
-use borrow.Author.Rules.{rules}
 use Rattle.texts.proofs.Laws.{comment_cut, no_comment, return_none, return_cut, return_kept}
 use Rattle.texts.proofs.without_comment.Goals as goal
 

@@ -1,11 +1,8 @@
 -- `texts::word` meets its contract. The loop's invariant: the word from here on is the word of all. Assumes nothing.
 use Prim.Native.Nat.{◌-◌, ◌≤◌}
 use mathlib.Core.Path.{◌≡◌}
-use native.Mathlib.Omega.{arith}
 use lib.ListN.{length, drop}
-use borrow.Author.Rules.{rules}
 use Rattle.texts.specs.Texts.{word_at}
-use Rattle.texts.proofs.Laws.{word_first, word_on, word_end}
 use Rattle.texts.proofs.word.Given as goal
 
 abbrev pub invariant-loop : goal.invariant-loop

@@ -1,7 +1,6 @@
 -- `tries::image_of` meets its contract: all of the page from byte 4 on. Assumes nothing.
 use Rattle.steps.proofs.Laws.{lent}
 use Rattle.tries.proofs.Laws.{no_image_lem}
-use borrow.Author.Rules.{rules}
 use Rattle.tries.proofs.image_of.Goals as goal
 
 pub returns-then-page-start : goal.returns-then-page-start

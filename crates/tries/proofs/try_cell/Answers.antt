@@ -4,7 +4,6 @@ use mathlib.Core.Path.{sym, ◌∙◌}
 use borrow.Author.Tests.{not-true, not-false}
 use Rattle.tries.specs.Tries.{cell_entry}
 use Rattle.tries.proofs.Laws.{try_unmet, cell_tried}
-use borrow.Author.Rules.{rules}
 use Rattle.tries.proofs.try_cell.Goals as goal
 
 pub returns-then-not-is_clean : goal.returns-then-not-is_clean

@@ -1,7 +1,6 @@
 -- `tries::try_entry` meets its contract: the line is tested first. Assumes nothing.
 use mathlib.Core.Path.{sym, ◌∙◌}
 use Rattle.tries.proofs.Laws.{try_met, try_unmet}
-use borrow.Author.Rules.{rules}
 use Rattle.tries.proofs.try_entry.Goals as goal
 
 pub returns-then-is_at : goal.returns-then-is_at

@@ -1,6 +1,5 @@
 -- `verdicts::image` meets its contract: of pages that no read is legal of, nothing is shown. Assumes nothing.
-use Rattle.std.proofs.Common.{ℕ, ◌*◌, ◌∙◌, rules}
-use Rattle.pages.specs.declared.PageOffset.{PageOffset}
+use Rattle.std.proofs.Common.{◌*◌, ◌∙◌}
 use Rattle.reads.specs.Reads.{read_part}
 use Rattle.verdicts.proofs.Laws.{too_long}
 use Rattle.verdicts.proofs.image.Goals as goal

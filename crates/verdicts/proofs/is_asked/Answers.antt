@@ -1,5 +1,5 @@
 -- `verdicts::is_asked` meets its contract, request by request. Assumes nothing.
-use Rattle.std.proofs.Common.{sym, ap, ◌∙◌, rules}
+use Rattle.std.proofs.Common.{sym, ap, ◌∙◌}
 use Rattle.plans.specs.declared.Request.{Request}
 use Rattle.verdicts.specs.Verdicts.{is_asked}
 use Rattle.verdicts.proofs.is_asked.Goals as goal

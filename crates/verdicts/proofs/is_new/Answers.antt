@@ -1,7 +1,6 @@
 -- `verdicts::is_new` meets its contract. The loop's invariant: the image is the new one exactly if the bytes from i on
 -- are those of the new one. Assumes nothing.
-use Rattle.std.proofs.Common.{◌≡◌, ◌-◌, ◌≤◌, length, drop, sym, refl, ◌∙◌, arith, rules}
-use Rattle.verdicts.specs.Verdicts.{is_new}
+use Rattle.std.proofs.Common.{sym, refl, ◌∙◌, arith}
 use Rattle.verdicts.proofs.Laws.{new_stop, new_next, new_end}
 use Rattle.verdicts.proofs.is_new.Goals as goal
 
@@ -18,13 +17,12 @@ returns-then-image-i c =
     ∙ c.loop-i.invariant.1
 
 pub loop-i-preserved : goal.loop-i-preserved
-loop-i-preserved c =
-    (
-      omega arith,
-      new_next c.args.image.now c.args.old.now c.args.offset c.args.«data».now c.loop-i.i (omega arith)
-          (c.if-image-i.false ∙ c.new_byte.ensures)
-          ∙ c.loop-i.invariant.1,
-    )
+loop-i-preserved c = (
+  omega arith,
+  new_next c.args.image.now c.args.old.now c.args.offset c.args.«data».now c.loop-i.i (omega arith)
+      (c.if-image-i.false ∙ c.new_byte.ensures)
+      ∙ c.loop-i.invariant.1,
+)
 
 pub returns : goal.returns
 returns c =

@@ -1,8 +1,7 @@
 -- `verdicts::is_new` meets its contract. The loop's invariant: the image is the new one exactly if the bytes from i on
 -- are those of the new one. Assumes nothing.
-use Rattle.std.proofs.Common.{◌≡◌, ◌-◌, ◌≤◌, length, drop, sym, refl, ◌∙◌, arith, rules}
+use Rattle.std.proofs.Common.{◌≡◌, ◌-◌, ◌≤◌, length, drop}
 use Rattle.verdicts.specs.Verdicts.{is_new}
-use Rattle.verdicts.proofs.Laws.{new_stop, new_next, new_end}
 use Rattle.verdicts.proofs.is_new.Given as goal
 
 abbrev pub invariant-loop-i : goal.invariant-loop-i

@@ -1,6 +1,5 @@
 -- `verdicts::is_saved` meets its contract. Assumes nothing.
 use Rattle.verdicts.proofs.Laws.{saved_never, saved_if}
-use Rattle.std.proofs.Common.{rules}
 use Rattle.verdicts.proofs.is_saved.Goals as goal
 
 pub returns-then-image-gt-MAX_PAGE : goal.returns-then-image-gt-MAX_PAGE

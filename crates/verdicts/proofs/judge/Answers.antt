@@ -1,5 +1,5 @@
 -- `verdicts::judge` meets its contract: no bytes are no image. Assumes nothing.
-use Rattle.std.proofs.Common.{arith, rules}
+use Rattle.std.proofs.Common.{arith}
 use Rattle.verdicts.proofs.Laws.{shows, lost, never_there}
 use Rattle.verdicts.proofs.judge.Goals as goal
 

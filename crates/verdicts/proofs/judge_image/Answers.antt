@@ -1,5 +1,5 @@
 -- `verdicts::judge_image` meets its contract: two tests, four verdicts. Assumes nothing.
-use Rattle.std.proofs.Common.{refl, rules}
+use Rattle.std.proofs.Common.{refl}
 use Rattle.verdicts.proofs.Laws.{judged}
 use Rattle.verdicts.proofs.judge_image.Goals as goal
 

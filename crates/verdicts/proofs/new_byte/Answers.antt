@@ -1,6 +1,5 @@
 -- `verdicts::new_byte` meets its contract: before the data, in it and after it. Assumes nothing.
 use Rattle.verdicts.proofs.Laws.{new_before, new_inside, new_after}
-use Rattle.std.proofs.Common.{rules}
 use Rattle.verdicts.proofs.new_byte.Goals as goal
 
 pub returns-then-place-start : goal.returns-then-place-start

@@ -1,6 +1,5 @@
 -- `verdicts::old_byte` meets its contract. Assumes nothing.
 use Rattle.verdicts.proofs.Laws.{old_inside, old_outside}
-use Rattle.std.proofs.Common.{rules}
 use Rattle.verdicts.proofs.old_byte.Goals as goal
 
 pub returns-then-place-image : goal.returns-then-place-image

@@ -1,6 +1,5 @@
 -- `walks::first_walk` meets its contract: it keeps what the pages start with. Assumes nothing.
 use Rattle.walks.proofs.Numbers.{started}
-use borrow.Author.Rules.{rules}
 use Rattle.walks.proofs.first_walk.Goals as goal
 
 pub returns : goal.returns

@@ -1,7 +1,6 @@
 -- `walks::try_step` meets its contract: what stands at the walk's place is the list's entry there. Assumes nothing.
 use Rattle.pages.proofs.Laws.{live_same}
 use Rattle.walks.proofs.Laws.{walk_fixed, never_beyond, never_cell, walk_cell}
-use borrow.Author.Rules.{rules}
 use Rattle.walks.proofs.try_step.Goals as goal
 
 pub returns-in-At : goal.returns-in-At

@@ -4,7 +4,6 @@ use native.Mathlib.Omega.{arith}
 use Rattle.plans.specs.declared.Request.{Request}
 use Rattle.walks.specs.Walks.{wrong_format}
 use Rattle.walks.proofs.Numbers.{format_offset, format_length}
-use borrow.Author.Rules.{rules}
 use Rattle.walks.proofs.wrong_format.Goals as goal
 
 pub returns-then-offset-ne-MANAGEMENT_SIZE : goal.returns-then-offset-ne-MANAGEMENT_SIZE

@@ -4,7 +4,6 @@ use native.Mathlib.Omega.{arith}
 use Rattle.requests.specs.Numbers.{number_in}
 use Rattle.flash.proofs.Laws.{told}
 use Rattle.walks.proofs.Numbers.{wrong_request, wrong_page, wrong_data, wrong_format_lem}
-use borrow.Author.Rules.{rules}
 use Rattle.walks.proofs.wrong_numbers.Goals as goal
 
 pub returns-then-left-walk : goal.returns-then-left-walk

@@ -1,6 +1,5 @@
 -- `pages::ImageOffset::to_page` meets its contract: the test says whether the page offset has 32 bits. Assumes nothing.
 use native.Mathlib.Omega.{arith}
-use borrow.Author.Rules.{rules}
 use Rattle.pages.proofs.Laws.{within_bits, past_bits}
 use Rattle.pages.proofs.ImageOffset.to_page.Goals as goal
 

@@ -1,7 +1,6 @@
 -- `pages::State::live` meets its contract, state by state. Assumes nothing.
 use mathlib.Core.Path.{sym, ap}
 use Rattle.pages.specs.Pages.{live_of, side_in}
-use borrow.Author.Rules.{rules}
 use Rattle.pages.proofs.State.live.Goals as goal
 
 pub returns-in-S0 : goal.returns-in-S0

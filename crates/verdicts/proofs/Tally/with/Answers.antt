@@ -1,5 +1,5 @@
 -- `verdicts::Tally::with` meets its contract, verdict by verdict. Assumes nothing.
-use Rattle.std.proofs.Common.{ap, rules}
+use Rattle.std.proofs.Common.{ap}
 use Rattle.verdicts.specs.Verdicts.{verdict_in}
 use Rattle.verdicts.proofs.Laws.{counted_as}
 use Rattle.verdicts.proofs.Tally.with.Goals as goal

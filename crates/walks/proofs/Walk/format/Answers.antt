@@ -5,7 +5,6 @@ use Rattle.requests.proofs.Laws.{legal_pages}
 use Rattle.flash.proofs.Laws.{told}
 use Rattle.walks.specs.Walks.{begin_format}
 use Rattle.walks.proofs.Numbers.{begin_refused, begin_on}
-use borrow.Author.Rules.{rules}
 use Rattle.walks.proofs.Walk.format.Goals as goal
 
 pub first_walk-requires : goal.first_walk-requires

@@ -1,12 +1,9 @@
 -- `walks::Walk::run` meets its contract. The loop's invariant: what is left to do gives what the whole run gives.
 -- Assumes nothing.
-use Prim.Native.Nat.{◌-◌, ◌≤◌}
-use mathlib.Core.Path.{◌≡◌, refl, ◌∙◌}
+use mathlib.Core.Path.{refl, ◌∙◌}
 use native.Mathlib.Omega.{arith}
-use lib.ListN.{length}
-use borrow.Author.Rules.{rules}
-use Rattle.walks.specs.Walks.{at_place, run_of}
-use Rattle.walks.proofs.Runs.{left_to_do, all_left, goes_on, ends, breaks, spent}
+use Rattle.walks.specs.Walks.{at_place}
+use Rattle.walks.proofs.Runs.{all_left, goes_on, ends, breaks, spent}
 use Rattle.walks.proofs.Walk.run.Goals as goal
 
 pub loop-steps-init : goal.loop-steps-init
@@ -20,17 +17,16 @@ pub loop-steps-smaller : goal.loop-steps-smaller
 loop-steps-smaller c = omega arith
 
 pub loop-steps-preserved : goal.loop-steps-preserved
-loop-steps-preserved c =
-    (
-      omega arith,
-      c.step-stepped.auto.left ∙ c.loop-steps.invariant.1,
-      c.step-stepped.auto.right ∙ c.loop-steps.invariant.2,
-      goes_on c.args.most c.loop-steps.steps c.args.self
-          c.at.result c.loop-steps.place
-          c.loop-steps.left c.loop-steps.right c.args.«data».now _ _
-          c.step-stepped.result (omega arith) c.at.ensures c.step-stepped.ensures c.in-Made.is
-          ∙ c.loop-steps.invariant.3,
-    )
+loop-steps-preserved c = (
+  omega arith,
+  c.step-stepped.auto.left ∙ c.loop-steps.invariant.1,
+  c.step-stepped.auto.right ∙ c.loop-steps.invariant.2,
+  goes_on c.args.most c.loop-steps.steps c.args.self
+      c.at.result c.loop-steps.place
+      c.loop-steps.left c.loop-steps.right c.args.«data».now _ _
+      c.step-stepped.result (omega arith) c.at.ensures c.step-stepped.ensures c.in-Made.is
+      ∙ c.loop-steps.invariant.3,
+)
 
 pub shape_of-left-in-Ended : goal.shape_of-left-in-Ended
 shape_of-left-in-Ended c = c.step-stepped.auto.left

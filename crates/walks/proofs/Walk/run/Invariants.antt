@@ -1,12 +1,10 @@
 -- `walks::Walk::run` meets its contract. The loop's invariant: what is left to do gives what the whole run gives.
 -- Assumes nothing.
 use Prim.Native.Nat.{◌-◌, ◌≤◌}
-use mathlib.Core.Path.{◌≡◌, refl, ◌∙◌}
-use native.Mathlib.Omega.{arith}
+use mathlib.Core.Path.{◌≡◌}
 use lib.ListN.{length}
-use borrow.Author.Rules.{rules}
 use Rattle.walks.specs.Walks.{at_place, run_of}
-use Rattle.walks.proofs.Runs.{left_to_do, all_left, goes_on, ends, breaks, spent}
+use Rattle.walks.proofs.Runs.{left_to_do}
 use Rattle.walks.proofs.Walk.run.Given as goal
 
 abbrev pub invariant-loop-steps : goal.invariant-loop-steps

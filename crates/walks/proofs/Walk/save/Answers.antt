@@ -8,7 +8,6 @@ use Rattle.requests.proofs.Laws.{legal}
 use Rattle.flash.proofs.Laws.{told}
 use Rattle.walks.specs.Walks.{begin_save}
 use Rattle.walks.proofs.Numbers.{begin_refused, begin_on}
-use borrow.Author.Rules.{rules}
 use Rattle.walks.proofs.Walk.save.Goals as goal
 use Rattle.walks.proofs.Walk.save.Goals.{In-Legal}
 

@@ -10,7 +10,6 @@ use Rattle.walks.specs.Walks.{wrong_numbers}
 use Rattle.walks.proofs.Numbers.{right_legal, right_page}
 use Rattle.walks.proofs.Laws.{total_of}
 use Rattle.walks.proofs.Steps.{answered, step_wrong, step_beyond, step_ended, step_made, step_unfit}
-use borrow.Author.Rules.{rules}
 use Rattle.walks.proofs.Walk.step.Goals as goal
 use Rattle.walks.proofs.Walk.step.Goals.{After-try_step-arg-2-1}
 

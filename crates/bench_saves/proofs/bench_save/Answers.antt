@@ -2,7 +2,6 @@
 use mathlib.Core.Path.{ap, ◌∙◌}
 use Rattle.walks.specs.Walks.{Beginning}
 use Rattle.bench_walks.specs.Whole.{walked}
-use borrow.Author.Rules.{rules}
 use Rattle.bench_saves.proofs.bench_save.Goals as goal
 
 pub returns : goal.returns

@@ -421,12 +421,25 @@ def first_bytes(file, most):
 standard_input = None                   # its bytes; None: they are read from this process's own
 
 
+NO_NAME = 22                            # the error of a name that isn't UTF-8
+
+
+def is_text(name):
+    try:
+        name.decode()
+    except UnicodeDecodeError:
+        return False
+    return True
+
+
 def load(name, most, sample=False):
     """The file's bytes, of an over-long one only the first `most`."""
     if name == b'-' and standard_input is not None:
         return standard_input[:most]
     file = None
     try:
+        if not is_text(name):
+            raise OSError(NO_NAME, '')
         file = 0 if name == b'-' else os.open(name, os.O_RDONLY)
         return first_bytes(file, most)
     except OSError as fault:

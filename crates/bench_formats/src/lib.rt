@@ -1,5 +1,7 @@
 // A whole format by one call, for the benchmark. bench/plain.h has the same signature; bench/run
 // builds and measures.
+#![tactic(auto)]
+
 ghost use Rattle.std.specs.Prelude.{[], ◌≡◌};
 ghost use Rattle.bench_walks.specs.Whole.{Walked, walked};
 ghost use Rattle.walks.specs.Walks.{begin_format};

@@ -17,7 +17,6 @@ use Rattle.requests.specs.Legal.{RightPages}
 use Rattle.requests.specs.Numbers.{wrong_pages}
 use Rattle.model.specs.Calls as C
 use Rattle.model.specs.Calls.{Call}
-use Rattle.model.specs.Board as B
 use Rattle.model.specs.Board.{Board, Turn, powered, turn, answers, board_after}
 use Rattle.model.specs.Decided.{is_begun}
 use Rattle.model.specs.Orders.{refusal}
@@ -31,7 +30,7 @@ use Rattle.turns.specs.Turns.{zeros, data_at}
 use Rattle.sessions.specs.declared.Session.{Session}
 use Rattle.sessions.specs.declared.Answered.{Answered}
 use Rattle.sessions.specs.Sessions.{script_calls, Stand, remaining, Next, next_of, stand_in, next_in, begins, is_on}
-use Rattle.sessions.proofs.Script.{Quiet, Follows, next_follows, nothing_left}
+use Rattle.sessions.proofs.Script.{Quiet, next_follows}
 use Rattle.turns.proofs.Laws.{zeros_length}
 use Rattle.sessions.proofs.Loop.{copied_part, copied_length, replaced, goes_on, over_left, Nexts}
 use Rattle.walks.specs.declared.Walk.{Walk}

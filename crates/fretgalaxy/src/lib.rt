@@ -1,5 +1,7 @@
 // The replay for hosts in C, Rust or Python: include/fretgalaxy.h declares it and states the
 // caller's duties. The script's layout and that of the answers are in docs/FORMATS.md.
+#![tactic(auto)]
+
 ghost use Rattle.std.specs.Prelude.{◌≡◌};
 ghost use Rattle.replays.specs.Replays.{Outcome, replayed};
 

@@ -18,7 +18,7 @@ use lib.ListN.{
   drop_of_length-le,
   replicate-append-replicate,
 }
-use lib.Seq.{drop_at, drop-drop, length-take-le, set_split, take_all, take_at, take-length, take-nil}
+use lib.Seq.{drop_at, drop-drop, length-take-le, set_split, take_all, take_at, take-nil}
 use borrow.Rule.Slice.PartMut.{mid_of, put_mid}
 use Rattle.images.specs.Images.{overlaid}
 use Rattle.images.proofs.Overlay.{length_overlaid, overlaid_nothing, data_back, overlaid_apart, overlaid_next}

@@ -24,7 +24,6 @@ use Rattle.model.specs.Calls as C
 use Rattle.model.specs.Board as B
 use Rattle.model.specs.Board.{Board, after_begin, answer_of, handed, step_hand, turn, answers}
 use Rattle.model.specs.Orders.{held_in}
-use Rattle.boards.specs.declared.Hand.{Hand}
 use Rattle.scripts.specs.declared.Item.{Item}
 use Rattle.scripts.specs.declared.Item.TheVariants.{
   Save,

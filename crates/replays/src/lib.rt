@@ -3,6 +3,8 @@
 // answers are the book's, for any bytes in the pages and in the script.
 //
 // Total: any bytes, any lengths. The whole script is checked before the first call is made.
+#![tactic(auto)]
+
 ghost use Rattle.std.specs.Prelude.{◌+◌, ◌≤◌, ◌≡◌, cond, length, replicate};
 ghost use Rattle.images.specs.Images.{overlaid};
 ghost use Rattle.model.specs.Board.{powered};

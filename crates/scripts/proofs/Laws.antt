@@ -27,27 +27,7 @@ use Rattle.scripts.specs.declared.Item.TheVariants.{
   Malformed,
 }
 use Rattle.scripts.specs.declared.Verdict as D
-use Rattle.scripts.specs.Scripts.{
-  First,
-  number_at,
-  short,
-  long,
-  kind_of,
-  first_of,
-  item_in,
-  Findings,
-  orders,
-  malformed,
-  no_room,
-  found,
-  verdict_in,
-  before,
-  judged,
-  size_of,
-  room_of,
-  checked_from,
-  checked,
-}
+use Rattle.scripts.specs.Scripts.{First, number_at, short, long, kind_of, first_of, item_in, Findings, orders, malformed, no_room, found, verdict_in, before, judged, size_of, room_of, checked_from}
 
 -- ---- tests
 -- the second of two tests, asked only where the first holds

@@ -2,6 +2,8 @@
 // in docs/FORMATS.md, its definitions in specs/Scripts.antt.
 //
 // Both are total: any bytes, any place, any room.
+#![tactic(auto)]
+
 ghost use Rattle.std.specs.Prelude.{◌+◌, ◌≤◌, cond, ◌&&◌, ◌≡◌, eqb, leb, length, drop, []};
 ghost use Rattle.scripts.specs.declared.Item.TheVariants.{Malformed};
 ghost use Rattle.scripts.specs.Scripts.{

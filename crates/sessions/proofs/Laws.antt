@@ -1,21 +1,19 @@
 -- Calls of a session are the model's.
 -- In order: buffers; one call; steps; a copy; a line.
 -- Assumes nothing.
-use Prim.Native.Nat.{ℕ, zero, suc, ◌-◌, ◌<◌, ◌≤◌}
-use mathlib.Core.Path.{◌≡◌, refl, sym, ap, ap₂, subst, ◌∙◌}
+use Prim.Native.Nat.{ℕ, zero, suc, ◌-◌, ◌≤◌}
+use mathlib.Core.Path.{◌≡◌, refl, sym, ap, subst, ◌∙◌}
 use mathlib.Core.Bool.{Bool, true, false, cond, not}
 use mathlib.Core.List.{List, [], ◌∷◌, ◌++◌}
 use native.Mathlib.Omega.{arith}
-use lib.Dec.{leb}
 use lib.ListN.{length, take, drop, replicate}
 use lib.Seq.{take-length, take-nil, length-take-le}
 use borrow.Author.Tests.{leb-true, not-true, not-false}
-use Rattle.pages.specs.declared.PageOffset.{PageOffset}
 use Rattle.reads.specs.Reads.{filled}
 use Rattle.model.specs.Calls as C
 use Rattle.model.specs.Board.{Board, Turn, turn, answers, board_after}
 use Rattle.model.specs.Decided.{is_made}
-use Rattle.model.specs.Orders.{Order, one, held_in}
+use Rattle.model.specs.Orders.{one, held_in}
 use Rattle.boards.specs.declared.Hand.{Hand}
 use Rattle.boards.specs.declared.Hand as H
 use Rattle.boards.specs.declared.Call.{Call}

@@ -5,7 +5,6 @@ use Prim.Native.Nat.{ℕ, zero, suc, ◌+◌, ◌-◌, ◌*◌, ◌<◌, ◌≤�
 use mathlib.Core.Path.{◌≡◌, refl, sym, ap, ap₂, subst, ◌∙◌}
 use mathlib.Core.Bool.{Bool, true, false, cond, not, ◌||◌}
 use mathlib.Core.List.{List, [], ◌∷◌, ◌++◌}
-use mathlib.Core.Option.{Option}
 use native.Mathlib.Omega.{arith}
 use lib.Dec.{eqb, ltb, leb}
 use lib.ListN.{length, take, drop, replicate, length-drop, length-append}
@@ -14,12 +13,11 @@ use borrow.Author.Tests.{ne_eqb, ltb-true, ltb-false}
 use borrow.Rule.Slice.PartMut.{mid_of, put_mid}
 use Rattle.copies.specs.Copies.{copied}
 use Rattle.model.specs.Calls as C
-use Rattle.model.specs.Board as B
 use Rattle.model.specs.Board.{Board, Turn, powered, turn, board_after}
 use Rattle.model.specs.Decided.{is_made}
-use Rattle.model.specs.Orders.{Order, one, held, held_in, calls_from}
+use Rattle.model.specs.Orders.{one, held_in}
 use Rattle.model.proofs.Orders.{board_append}
-use Rattle.boards.specs.Boards.{hand_in, board_in}
+use Rattle.boards.specs.Boards.{board_in}
 use Rattle.texts.specs.Texts.{before_first, is, line_at, next_line, word_at}
 use Rattle.digits.specs.Digits.{bytes_of}
 use Rattle.asks.specs.Asks as T
@@ -29,24 +27,7 @@ use Rattle.turns.specs.Turns.{zeros, data_at}
 use Rattle.turns.proofs.Laws.{zeros_length}
 use Rattle.sessions.specs.declared.Session.{Session}
 use Rattle.sessions.specs.declared.Answered.{Answered}
-use Rattle.sessions.specs.Sessions.{
-  order_for,
-  line_orders,
-  script_calls,
-  Stand,
-  remaining,
-  Next,
-  stands,
-  nexts,
-  step_next,
-  order_next,
-  next_from,
-  next_of,
-  stand_in,
-  next_in,
-  begins,
-  is_on,
-}
+use Rattle.sessions.specs.Sessions.{order_for, script_calls, Stand, remaining, Next, stands, nexts, step_next, order_next, next_from, next_of, stand_in, next_in, begins, is_on}
 use Rattle.sessions.proofs.Script.{next_follows, nothing_left}
 
 -- ---- parts of a buffer

@@ -3,7 +3,7 @@
 -- In order: lines; orders; the steps of a line; the next call; a whole script.
 -- Assumes nothing.
 use Prim.Native.Nat.{ℕ, zero, suc, ◌+◌, ◌-◌, ◌<◌, ◌≤◌}
-use mathlib.Core.Path.{◌≡◌, refl, sym, ap, ap₂, subst, ◌∙◌}
+use mathlib.Core.Path.{◌≡◌, refl, sym, ap, subst, ◌∙◌}
 use mathlib.Core.Bool.{Bool, true, false, cond}
 use mathlib.Core.List.{List, [], ◌∷◌, ◌++◌, append_assoc, append-nil}
 use mathlib.Core.Option.{Option, none, some}
@@ -25,30 +25,11 @@ use Rattle.model.specs.Calls as C
 use Rattle.model.specs.Board as B
 use Rattle.model.specs.Board.{Board, Turn, handed, step_hand, after_step, powered, turn, answers, board_after}
 use Rattle.model.specs.Decided.{is_made, is_begun}
-use Rattle.model.specs.Orders.{Order, one, held, held_in, calls_of, calls_from, true_answers}
-use Rattle.model.proofs.Orders.{answers_append, board_append, ByteOrder, ByteOrders, orders_book}
+use Rattle.model.specs.Orders.{Order, one, held, held_in, calls_from, true_answers}
+use Rattle.model.proofs.Orders.{answers_append, ByteOrders, orders_book}
 use Rattle.boards.proofs.Laws.{repeats}
 use Rattle.turns.specs.Turns.{zeros}
-use Rattle.sessions.specs.Sessions.{
-  joined,
-  lines_of,
-  words_of,
-  copy_into,
-  order_for,
-  line_orders,
-  orders_in,
-  orders_of,
-  script_calls,
-  Stand,
-  remaining,
-  Next,
-  stands,
-  nexts,
-  step_next,
-  order_next,
-  next_from,
-  next_of,
-}
+use Rattle.sessions.specs.Sessions.{joined, lines_of, words_of, order_for, line_orders, orders_in, orders_of, script_calls, Stand, remaining, Next, stands, nexts, step_next, order_next, next_from, next_of}
 
 -- ---- lines
 -- the first line of a text, and those after it

@@ -3,6 +3,8 @@
 //
 // The data of the walk in hand is that of the line that began it. What each call leaves is in
 // specs/Sessions.antt.
+#![tactic(auto)]
+
 ghost use Rattle.std.specs.Prelude.{◌≡◌};
 ghost use Rattle.boards.specs.Boards.{times_of, own_of};
 ghost use Rattle.turns.specs.Turns.{data_at};

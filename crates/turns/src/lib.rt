@@ -3,6 +3,8 @@
 //
 // It is total: any text, any places. What each call leaves is in specs/Turns.antt and in the crate
 // boards.
+#![tactic(auto)]
+
 ghost use Rattle.std.specs.Prelude.{◌≤◌, ◌≡◌, length};
 ghost use Rattle.boards.specs.Boards.{board_in, Made, turn_in, made_on};
 ghost use Rattle.texts.specs.Texts.{line_at, word_at};

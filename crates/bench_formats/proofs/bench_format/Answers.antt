@@ -3,7 +3,6 @@ use mathlib.Core.Path.{ap, ◌∙◌}
 use mathlib.Core.List.{[]}
 use Rattle.walks.specs.Walks.{Beginning}
 use Rattle.bench_walks.specs.Whole.{walked}
-use borrow.Author.Rules.{rules}
 use Rattle.bench_formats.proofs.bench_format.Goals as goal
 
 pub returns : goal.returns

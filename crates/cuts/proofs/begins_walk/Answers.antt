@@ -1,7 +1,6 @@
 -- `cuts::begins_walk` meets its contract. Assumes nothing.
 use mathlib.Core.Path.{sym}
 use Rattle.cuts.proofs.Laws.{not_once, begun_not, begun_once}
-use borrow.Author.Rules.{rules}
 use Rattle.cuts.proofs.begins_walk.Goals as goal
 
 pub returns-then-answered-ne1 : goal.returns-then-answered-ne1

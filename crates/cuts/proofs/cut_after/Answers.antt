@@ -1,9 +1,6 @@
 -- `cuts::cut_after` meets its contract: so many steps on copies, judged beside the pages before them.
 -- Assumes nothing.
-use native.Mathlib.Omega.{arith}
-use Rattle.sessions.proofs.Loop.{still_fits}
-use Rattle.cuts.proofs.Laws.{copy_fits, cut_judged}
-use borrow.Author.Rules.{rules}
+use Rattle.cuts.proofs.Laws.{cut_judged}
 use Rattle.cuts.proofs.cut_after.Goals as goal
 
 pub returns : goal.returns

@@ -1,9 +1,8 @@
 -- `cuts::cut_each` meets its contract. The loop's invariant: so many cuts are tallied. Assumes nothing.
-use Prim.Native.Nat.{ℕ, ◌+◌, ◌-◌, ◌≤◌}
+use Prim.Native.Nat.{ℕ, ◌+◌}
 use mathlib.Core.Path.{◌≡◌, refl, sym, ap, ◌∙◌}
 use native.Mathlib.Omega.{arith}
-use borrow.Author.Rules.{rules}
-use Rattle.cuts.specs.Cuts.{tallied, total_of}
+use Rattle.cuts.specs.Cuts.{total_of}
 use Rattle.cuts.proofs.Laws.{no_tally, tally_next}
 use Rattle.cuts.proofs.cut_each.Goals as goal
 
@@ -12,11 +11,11 @@ loop-count-init c = (omega arith, no_tally c.args.walk c.args.«data».now c.arg
 
 pub loop-count-preserved : goal.loop-count-preserved
 loop-count-preserved c = (
-      omega arith,
-      tally_next c.loop-count.count _ c.args.walk c.args.«data».now c.args.left.now c.args.right.now c.loop-count.tally _ _ refl
-          c.loop-count.invariant.1
-          c.cut_after.ensures c.with-tally.ensures,
-    )
+  omega arith,
+  tally_next c.loop-count.count _ c.args.walk c.args.«data».now c.args.left.now c.args.right.now c.loop-count.tally _ _ refl
+      c.loop-count.invariant.1
+      c.cut_after.ensures c.with-tally.ensures,
+)
 
 pub returns : goal.returns
 returns c = absurd (omega (arith, c.loop-count.invariant.0, c.loop-count-test.false))

@@ -1,10 +1,7 @@
 -- `cuts::cut_each` meets its contract. The loop's invariant: so many cuts are tallied. Assumes nothing.
-use Prim.Native.Nat.{ℕ, ◌+◌, ◌-◌, ◌≤◌}
-use mathlib.Core.Path.{◌≡◌, refl, sym, ap, ◌∙◌}
-use native.Mathlib.Omega.{arith}
-use borrow.Author.Rules.{rules}
-use Rattle.cuts.specs.Cuts.{tallied, total_of}
-use Rattle.cuts.proofs.Laws.{no_tally, tally_next}
+use Prim.Native.Nat.{◌-◌, ◌≤◌}
+use mathlib.Core.Path.{◌≡◌}
+use Rattle.cuts.specs.Cuts.{tallied}
 use Rattle.cuts.proofs.cut_each.Given as goal
 
 abbrev pub invariant-loop-count : goal.invariant-loop-count

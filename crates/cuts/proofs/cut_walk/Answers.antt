@@ -4,7 +4,6 @@ use mathlib.Core.Path.{ap, ◌∙◌}
 use mathlib.Core.List.{List}
 use Rattle.turns.proofs.Laws.{loaded_part}
 use Rattle.cuts.specs.Cuts.{tallied, total_of}
-use borrow.Author.Rules.{rules}
 use Rattle.cuts.proofs.cut_walk.Goals as goal
 
 pub returns : goal.returns

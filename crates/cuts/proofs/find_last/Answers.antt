@@ -1,15 +1,12 @@
 -- `cuts::find_last` meets its contract. The loop's invariant: the last save so far, with those that are still to come.
 -- Assumes nothing.
-use Rattle.cuts.proofs.Laws.{Kept, kept_next, sought_first, sought_last, copy_fits}
+use Rattle.cuts.proofs.Laws.{kept_next, sought_first, sought_last, copy_fits}
 use Rattle.turns.proofs.Laws.{zeros_length}
 use Rattle.boards.specs.declared.Hand as H
-use Rattle.sessions.proofs.Loop.{leftover, replaced, next_less}
-use borrow.Rule.Slice.PartMut.{put_mid}
-use borrow.Author.Rules.{rules}
+use Rattle.sessions.proofs.Loop.{replaced, next_less}
 use lib.ListN.{length}
 use native.Mathlib.Omega.{arith}
-use mathlib.Core.Path.{◌≡◌, refl, sym, ap, ◌∙◌}
-use Prim.Native.Nat.{◌≤◌}
+use mathlib.Core.Path.{refl, sym, ap, ◌∙◌}
 use Rattle.cuts.proofs.find_last.Goals as goal
 
 pub loop-on-init : goal.loop-on-init

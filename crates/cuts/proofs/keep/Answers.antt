@@ -1,6 +1,5 @@
 -- `cuts::keep` meets its contract. Assumes nothing.
 use Rattle.cuts.proofs.Laws.{kept_not, kept_one}
-use borrow.Author.Rules.{rules}
 use Rattle.cuts.proofs.keep.Goals as goal
 
 pub returns-then-not-begins_walk : goal.returns-then-not-begins_walk

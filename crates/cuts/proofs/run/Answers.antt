@@ -1,7 +1,6 @@
 -- `cuts::run` meets its contract. Assumes nothing.
 use lib.ListN.{length}
 use Rattle.cuts.proofs.Laws.{too_long, unlike, tally_none, tally_one}
-use borrow.Author.Rules.{rules}
 use Rattle.cuts.proofs.run.Goals as goal
 
 pub returns-then-page-gt-MAX_PAGE : goal.returns-then-page-gt-MAX_PAGE

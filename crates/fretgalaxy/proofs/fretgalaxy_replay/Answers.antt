@@ -4,7 +4,6 @@ use mathlib.Core.List.{List}
 use Rattle.flash.proofs.Laws.{told}
 use Rattle.replays.specs.declared.Replayed.{Replayed}
 use Rattle.replays.specs.Replays.{Outcome, report_in}
-use borrow.Author.Rules.{rules}
 use Rattle.fretgalaxy.proofs.fretgalaxy_replay.Goals as goal
 
 abbrev outcome : List ℕ → List ℕ → List ℕ → Replayed → Outcome

@@ -2,7 +2,6 @@
 use mathlib.Core.Path.{sym, ap}
 use Rattle.boards.specs.declared.Hand.{Hand}
 use Rattle.replays.specs.Runs.{held_span}
-use borrow.Author.Rules.{rules}
 use Rattle.replays.proofs.held_span.Goals as goal
 
 pub returns-in-Empty : goal.returns-in-Empty

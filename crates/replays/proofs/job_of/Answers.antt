@@ -1,9 +1,8 @@
 -- `replays::job_of` meets its contract: item by item. Assumes nothing.
 use mathlib.Core.Path.{refl}
-use Rattle.scripts.specs.declared.Item.TheVariants.{ Save, Format, Steps, StepWith, Read, ReadInto, Cut, Malformed, }
+use Rattle.scripts.specs.declared.Item.TheVariants.{Save, Format, Steps, StepWith, Read, ReadInto, Cut, Malformed}
 use Rattle.replays.specs.Runs.{held_span}
 use Rattle.replays.proofs.Items.{job_here}
-use borrow.Author.Rules.{rules}
 use Rattle.replays.proofs.job_of.Goals as goal
 
 pub plain-requires : goal.plain-requires

@@ -1,6 +1,5 @@
 -- `replays::part` meets its contract. Assumes nothing.
 use Rattle.replays.proofs.Output.{part_past, part_rest, part_inside}
-use borrow.Author.Rules.{rules}
 use Rattle.replays.proofs.part.Goals as goal
 
 pub returns-then-end-start : goal.returns-then-end-start

@@ -1,11 +1,8 @@
 -- `replays::put_all` meets its contract. The loop's invariant: the bytes before its place are laid in. Assumes nothing.
 use Prim.Native.Nat.{◌-◌, ◌≤◌}
-use mathlib.Core.Path.{◌≡◌, refl, ◌∙◌}
-use native.Mathlib.Omega.{arith}
-use lib.ListN.{length, replicate, length-set}
+use mathlib.Core.Path.{◌≡◌}
+use lib.ListN.{length, replicate}
 use Rattle.images.specs.Images.{overlaid}
-use Rattle.replays.proofs.Output.{all_none, all_more, all_end}
-use borrow.Author.Rules.{rules}
 use Rattle.replays.proofs.put_all.Given as goal
 
 abbrev pub invariant-loop-i : goal.invariant-loop-i

@@ -4,7 +4,6 @@ use native.Mathlib.Omega.{arith}
 use Rattle.scripts.specs.declared.Verdict.TheVariants.{Malformed, NoRoom}
 use Rattle.scripts.specs.Scripts.{Report, verdict_in}
 use Rattle.replays.proofs.Answered.{bytes_of, replay_done, replay_refused}
-use borrow.Author.Rules.{rules}
 use Rattle.replays.proofs.replay.Goals as goal
 
 pub run-ran-requires : goal.run-ran-requires

@@ -2,7 +2,6 @@
 use mathlib.Core.Path.{refl}
 use Rattle.boards.specs.declared.Answer as A
 use Rattle.replays.proofs.Turns.{reply_made, reply_last}
-use borrow.Author.Rules.{rules}
 use Rattle.replays.proofs.reply_of.Goals as goal
 
 pub short-requires : goal.short-requires

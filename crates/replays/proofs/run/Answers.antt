@@ -1,30 +1,25 @@
 -- `replays::run` meets its contract. The loop's invariant: what lies ahead gives what the whole script gives.
 -- Assumes nothing.
-use Prim.Native.Nat.{◌-◌, ◌≤◌}
-use mathlib.Core.Path.{◌≡◌, refl, ◌∙◌}
+use mathlib.Core.Path.{refl, ◌∙◌}
 use native.Mathlib.Omega.{arith}
 use lib.ListN.{length}
 use mir.Facts.{Fits-le}
-use Rattle.model.specs.Board.{powered}
-use Rattle.scripts.specs.Scripts.{checked}
-use Rattle.replays.specs.Runs.{running, orders_of}
 use Rattle.replays.proofs.Output.{within}
-use Rattle.replays.proofs.Ahead.{run_in, Ahead, first_ahead, ahead_from, less_ahead, pass, at_end}
+use Rattle.replays.proofs.Ahead.{run_in, first_ahead, ahead_from, less_ahead, pass, at_end}
 use Rattle.replays.proofs.run.Goals as goal
 
 pub empty_hand-hand-requires : goal.empty_hand-hand-requires
 empty_hand-hand-requires c = tt
 
 pub loop-place-init : goal.loop-place-init
-loop-place-init c =
-    (
-      omega arith,
-      refl,
-      refl,
-      refl,
-      first_ahead c.args.script.now c.args.left.now c.args.right.now c.args.out.now c.empty_hand-hand.result
-          c.empty_hand-hand.ensures c.requires,
-    )
+loop-place-init c = (
+  omega arith,
+  refl,
+  refl,
+  refl,
+  first_ahead c.args.script.now c.args.left.now c.args.right.now c.args.out.now c.empty_hand-hand.result
+      c.empty_hand-hand.ensures c.requires,
+)
 
 pub item_at-item-requires : goal.item_at-item-requires
 item_at-item-requires c = tt
@@ -61,8 +56,7 @@ loop-place-preserved c =
     let p =
     pass c.args.script.now c.loop-place.place (length c.args.out.now) c.size-size.result c.item_at-item.result
     (run_in c.args.script.now c.loop-place.ran c.loop-place.left c.loop-place.right c.loop-place.out) _ c.loop-place-test.true
-    c.item_at-item.ensures c.size-size.ensures c.loop-place.invariant.4 in
-    (
+    c.item_at-item.ensures c.size-size.ensures c.loop-place.invariant.4 in (
       p.inside,
       c.run_item-ran.auto.left ∙ c.loop-place.invariant.1,
       c.run_item-ran.auto.right ∙ c.loop-place.invariant.2,

@@ -1,15 +1,12 @@
 -- `replays::run` meets its contract. The loop's invariant: what lies ahead gives what the whole script gives.
 -- Assumes nothing.
 use Prim.Native.Nat.{◌-◌, ◌≤◌}
-use mathlib.Core.Path.{◌≡◌, refl, ◌∙◌}
-use native.Mathlib.Omega.{arith}
+use mathlib.Core.Path.{◌≡◌}
 use lib.ListN.{length}
-use mir.Facts.{Fits-le}
 use Rattle.model.specs.Board.{powered}
 use Rattle.scripts.specs.Scripts.{checked}
 use Rattle.replays.specs.Runs.{running, orders_of}
-use Rattle.replays.proofs.Output.{within}
-use Rattle.replays.proofs.Ahead.{run_in, Ahead, first_ahead, ahead_from, less_ahead, pass, at_end}
+use Rattle.replays.proofs.Ahead.{run_in, Ahead}
 use Rattle.replays.proofs.run.Given as goal
 
 abbrev pub invariant-loop-place : goal.invariant-loop-place

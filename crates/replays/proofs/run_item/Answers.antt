@@ -5,7 +5,6 @@ use native.Mathlib.Nat.{le-add_right}
 use lib.ListN.{length}
 use mir.Facts.{Fits-le}
 use borrow.Rule.Slice.PartMut.{same_len_mid}
-use Rattle.replays.proofs.Output.{within}
 use Rattle.replays.proofs.Made.{output_room, left_by, left_room, left_end, left_run}
 use Rattle.replays.proofs.run_item.Goals as goal
 

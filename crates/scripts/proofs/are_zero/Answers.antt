@@ -1,7 +1,6 @@
 -- `scripts::are_zero` meets its contract. Assumes nothing.
 use mathlib.Core.Path.{◌∙◌}
 use Rattle.scripts.proofs.Laws.{and_then, and_not}
-use borrow.Author.Rules.{rules}
 use Rattle.scripts.proofs.are_zero.Goals as goal
 
 pub returns-then-is_zero : goal.returns-then-is_zero

@@ -4,9 +4,8 @@ use Prim.Native.Nat.{◌+◌, ◌-◌, ◌≤◌}
 use mathlib.Core.Path.{◌≡◌, refl, sym, ap, ◌∙◌}
 use native.Mathlib.Omega.{arith}
 use lib.ListN.{length, drop}
-use Rattle.scripts.specs.Scripts.{found, checked_from, checked}
+use Rattle.scripts.specs.Scripts.{found, checked_from}
 use Rattle.scripts.proofs.Laws.{check_bad, check_full, check_on, check_end}
-use borrow.Author.Rules.{rules}
 use Rattle.scripts.proofs.check.Goals as goal
 use Rattle.scripts.proofs.check.Goals.{Else-left-need}
 

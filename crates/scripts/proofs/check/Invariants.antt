@@ -1,12 +1,9 @@
 -- `scripts::check` meets its contract. The loop's invariant: the check from here on says what the check of all says.
 -- Assumes nothing.
-use Prim.Native.Nat.{◌+◌, ◌-◌, ◌≤◌}
-use mathlib.Core.Path.{◌≡◌, refl, sym, ap, ◌∙◌}
-use native.Mathlib.Omega.{arith}
+use Prim.Native.Nat.{◌-◌, ◌≤◌}
+use mathlib.Core.Path.{◌≡◌}
 use lib.ListN.{length, drop}
 use Rattle.scripts.specs.Scripts.{found, checked_from, checked}
-use Rattle.scripts.proofs.Laws.{check_bad, check_full, check_on, check_end}
-use borrow.Author.Rules.{rules}
 use Rattle.scripts.proofs.check.Given as goal
 
 abbrev pub invariant-loop-at : goal.invariant-loop-at

@@ -1,7 +1,6 @@
 -- `scripts::item_at` meets its contract. Assumes nothing.
 use native.Mathlib.Omega.{arith}
 use Rattle.scripts.proofs.Laws.{cut_short, item_read}
-use borrow.Author.Rules.{rules}
 use Rattle.scripts.proofs.item_at.Goals as goal
 
 pub returns-then-size-at : goal.returns-then-size-at

@@ -6,7 +6,6 @@ use mathlib.Core.Bool.{true}
 use mathlib.Core.Path.{refl, sym, ap, ◌∙◌}
 use Rattle.scripts.specs.Scripts.{kind_of}
 use Rattle.scripts.proofs.Laws.{kinded, left_bytes, no_kind}
-use borrow.Author.Rules.{rules}
 use Rattle.scripts.proofs.item_of.Goals as goal
 
 pub returns-in-1 : goal.returns-in-1

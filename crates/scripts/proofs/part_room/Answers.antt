@@ -3,7 +3,6 @@ use Prim.Native.Nat.{◌+◌}
 use mathlib.Core.Path.{sym, ap}
 use mathlib.Core.Bool.{Bool, cond}
 use borrow.Author.Tests.{le-leb, lt-leb}
-use borrow.Author.Rules.{rules}
 use Rattle.scripts.proofs.part_room.Goals as goal
 
 pub returns-then-len-le-MAX_PART : goal.returns-then-len-le-MAX_PART

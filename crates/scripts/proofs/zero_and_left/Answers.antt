@@ -1,6 +1,5 @@
 -- `scripts::zero_and_left` meets its contract. Assumes nothing.
 use Rattle.scripts.proofs.Laws.{and_then, and_not}
-use borrow.Author.Rules.{rules}
 use Rattle.scripts.proofs.zero_and_left.Goals as goal
 
 pub returns-then-is_zero : goal.returns-then-is_zero

@@ -2,8 +2,7 @@
 use mathlib.Core.Path.{refl, ◌∙◌}
 use Rattle.boards.specs.Boards.{board_in}
 use Rattle.turns.specs.Turns.{data_at}
-use Rattle.sessions.proofs.Laws.{ makes, passed, copy_size, line_ready, line_after, line_made, stepped, step_made, step_unmade, }
-use borrow.Author.Rules.{rules}
+use Rattle.sessions.proofs.Laws.{makes, passed, copy_size, line_ready, line_after, line_made, stepped, step_made, step_unmade}
 use Rattle.sessions.proofs.next.Goals as goal
 
 pub returns-then-not-plan : goal.returns-then-not-plan

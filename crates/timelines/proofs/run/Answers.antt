@@ -1,12 +1,8 @@
 -- `timelines::run` meets its contract. The loop's invariant: from here on the script ends where it ends from the start.
 -- Assumes nothing.
-use Prim.Native.Nat.{◌≤◌}
-use mathlib.Core.Path.{◌≡◌, sym, ap, ◌∙◌}
-use native.Mathlib.Omega.{arith}
+use mathlib.Core.Path.{sym, ap, ◌∙◌}
 use lib.ListN.{length}
-use borrow.Author.Rules.{rules}
-use Rattle.sessions.specs.Sessions.{is_on}
-use Rattle.sessions.proofs.Loop.{leftover, On, first_on, still_fits, next_on, next_less}
+use Rattle.sessions.proofs.Loop.{first_on, next_on, next_less}
 use Rattle.turns.proofs.Laws.{zeros_length}
 use Rattle.timelines.proofs.Laws.{too_long, unlike, held_last}
 use Rattle.timelines.proofs.run.Goals as goal
@@ -41,17 +37,17 @@ loop-on-smaller c = next_less c.args.text.now c.loop-on.session c.next-answered.
 
 pub loop-on-preserved : goal.loop-on-preserved
 loop-on-preserved c = (
-      c.loop-on.invariant.0,
-      c.before-report.auto.shown ∙ c.loop-on.invariant.1,
-      c.after-report.auto.old ∙ c.loop-on.invariant.2,
-      c.is_on-on-in-loop-on.ensures,
-      next_on c.args.text.now c.loop-on.session c.next-answered.result (length c.args.left.now) c.loop-on.now_left
-          c.loop-on.now_right _ _ _ c.blank-output.result
-          c.args.left.now c.args.right.now c.loop-on.invariant.0 (sym c.loop-on.invariant.3
-          ∙ c.loop-on-test.true)
-          c.blank-output.ensures
-          c.next-answered.auto.left c.next-answered.auto.right c.next-answered.ensures c.loop-on.invariant.4,
-    )
+  c.loop-on.invariant.0,
+  c.before-report.auto.shown ∙ c.loop-on.invariant.1,
+  c.after-report.auto.old ∙ c.loop-on.invariant.2,
+  c.is_on-on-in-loop-on.ensures,
+  next_on c.args.text.now c.loop-on.session c.next-answered.result (length c.args.left.now) c.loop-on.now_left
+      c.loop-on.now_right _ _ _ c.blank-output.result
+      c.args.left.now c.args.right.now c.loop-on.invariant.0 (sym c.loop-on.invariant.3
+      ∙ c.loop-on-test.true)
+      c.blank-output.ensures
+      c.next-answered.auto.left c.next-answered.auto.right c.next-answered.ensures c.loop-on.invariant.4,
+)
 
 pub returns : goal.returns
 returns c = held_last c.args.text.now c.loop-on.session _ _ c.args.left.now c.args.right.now (sym c.loop-on.invariant.3

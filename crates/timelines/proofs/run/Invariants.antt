@@ -1,14 +1,10 @@
 -- `timelines::run` meets its contract. The loop's invariant: from here on the script ends where it ends from the start.
 -- Assumes nothing.
 use Prim.Native.Nat.{◌≤◌}
-use mathlib.Core.Path.{◌≡◌, sym, ap, ◌∙◌}
-use native.Mathlib.Omega.{arith}
+use mathlib.Core.Path.{◌≡◌}
 use lib.ListN.{length}
-use borrow.Author.Rules.{rules}
 use Rattle.sessions.specs.Sessions.{is_on}
-use Rattle.sessions.proofs.Loop.{leftover, On, first_on, still_fits, next_on, next_less}
-use Rattle.turns.proofs.Laws.{zeros_length}
-use Rattle.timelines.proofs.Laws.{too_long, unlike, held_last}
+use Rattle.sessions.proofs.Loop.{leftover, On}
 use Rattle.timelines.proofs.run.Given as goal
 
 abbrev pub invariant-loop-on : goal.invariant-loop-on

@@ -1,7 +1,6 @@
 -- `turns::digits_at` meets its contract. Assumes nothing.
 use mathlib.Core.Path.{ap, ◌∙◌}
 use Rattle.texts.specs.Texts.{word_at}
-use borrow.Author.Rules.{rules}
 use Rattle.turns.proofs.digits_at.Goals as goal
 
 pub returns : goal.returns

@@ -3,7 +3,6 @@ use mathlib.Core.Path.{sym, ap}
 use Rattle.asks.specs.declared.Call.{Call}
 use Rattle.asks.specs.Asks.{asks_in}
 use Rattle.turns.specs.Turns.{plan_for}
-use borrow.Author.Rules.{rules}
 use Rattle.turns.proofs.line_plan.Goals as goal
 
 pub returns-in-Nothing : goal.returns-in-Nothing

@@ -1,6 +1,5 @@
 -- `turns::load` meets its contract. Assumes nothing.
 use Rattle.turns.proofs.Laws.{loaded_bound, load_short, load_even, load_empty, load_odd}
-use borrow.Author.Rules.{rules}
 use Rattle.turns.proofs.load.Goals as goal
 
 pub returns-then-count-room : goal.returns-then-count-room

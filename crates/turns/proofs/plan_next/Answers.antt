@@ -1,6 +1,5 @@
 -- `turns::plan_next` meets its contract. Assumes nothing.
 use Rattle.turns.proofs.Laws.{line_planned, step_planned}
-use borrow.Author.Rules.{rules}
 use Rattle.turns.proofs.plan_next.Goals as goal
 
 pub returns-then-left-eq0 : goal.returns-then-left-eq0

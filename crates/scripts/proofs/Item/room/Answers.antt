@@ -3,7 +3,6 @@ use mathlib.Core.Path.{sym, ap, ◌∙◌}
 use mathlib.Core.List.{[]}
 use Rattle.scripts.specs.declared.Item.{Item}
 use Rattle.scripts.specs.Scripts.{item_in, room_of}
-use borrow.Author.Rules.{rules}
 use Rattle.scripts.proofs.Item.room.Goals as goal
 
 pub returns-in-Read : goal.returns-in-Read

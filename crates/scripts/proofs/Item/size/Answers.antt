@@ -3,7 +3,6 @@ use mathlib.Core.Path.{sym, ap}
 use mathlib.Core.List.{[]}
 use Rattle.scripts.specs.declared.Item.{Item}
 use Rattle.scripts.specs.Scripts.{item_in, size_of}
-use borrow.Author.Rules.{rules}
 use Rattle.scripts.proofs.Item.size.Goals as goal
 
 pub returns-in-Save : goal.returns-in-Save

@@ -1,5 +1,7 @@
 // The erased test by itself, for hosts that try it at every length and measure it. No board links it:
 // the calls for firmware are those of the crate fretgalaxy.
+#![tactic(auto)]
+
 ghost use Rattle.std.specs.Prelude.{◌≡◌};
 ghost use Rattle.flash.specs.Flash.{is_erased};
 

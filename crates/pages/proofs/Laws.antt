@@ -52,7 +52,10 @@ both_words a b l r h k = go (eqb a l) (eqb b r) refl refl
         ne_eqb (a + b * 4294967296) (l + r * 4294967296) (λ z. p (omega (arith, h, k, z)))
 
 -- ---- a state is known by its line number, and a status by what it says
-pub at_line : (s : State) → state_from (line_of s) ≡ some s
+abbrev state_at : ℕ → State
+state_at n = get_or (S0 ∷ S1 ∷ S2 ∷ S3 ∷ S0 ∷ S5 ∷ S6 ∷ S7 ∷ S8 ∷ S9 ∷ S10 ∷ []) n S0
+
+at_line : (s : State) → state_at (line_of s) ≡ s
 at_line S0 = refl
 at_line S1 = refl
 at_line S2 = refl
@@ -65,9 +68,20 @@ at_line S9 = refl
 at_line S10 = refl
 
 pub line_same : (s t : State) → line_of s ≡ line_of t → s ≡ t
-line_same s t e =
-    let f : some s ≡ some t = sym (at_line s) ∙ ap state_from e ∙ at_line t in
-    cc
+line_same s t e = sym (at_line s) ∙ ap state_at e ∙ at_line t
+
+-- and by the list of the states
+pub named_at : (s : State) → state_from (line_of s) ≡ some s
+named_at S0 = refl
+named_at S1 = refl
+named_at S2 = refl
+named_at S3 = refl
+named_at S5 = refl
+named_at S6 = refl
+named_at S7 = refl
+named_at S8 = refl
+named_at S9 = refl
+named_at S10 = refl
 
 -- and a number that names a state is that state's own, once over the states
 abbrev Numbered : ℕ → List (Option State) → Type 0

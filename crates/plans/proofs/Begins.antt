@@ -16,7 +16,7 @@ use Rattle.pages.specs.declared.Side.TheVariants.{Left, Right}
 use Rattle.pages.specs.declared.State.{State}
 use Rattle.pages.specs.declared.State.TheVariants.{S0, S1, S2, S3, S5, S6, S7, S8, S9, S10}
 use Rattle.pages.specs.declared.Live.{Live}
-use Rattle.pages.specs.Pages.{word_bytes, on_side, line_of, live_of, row_of, status_of}
+use Rattle.pages.specs.Pages.{on_side, line_of, live_of, row_of, status_of}
 use Rattle.pages.proofs.Table.{status_live}
 use Rattle.steps.specs.declared.Step.TheVariants.{Erase}
 use Rattle.images.specs.Images.{image_on, live_image}
@@ -32,7 +32,7 @@ use Rattle.plans.specs.Plans.{
   saving,
   formatting,
 }
-use Rattle.plans.proofs.Shapes.{blank, valid, dead, from_row, at_clean, at_used, shows_none, at_blank}
+use Rattle.plans.proofs.Shapes.{blank, valid, dead, bytes_of, from_row, at_clean, at_used, shows_none, at_blank}
 use Rattle.plans.proofs.Good.{
   Good,
   MaybeImage,
@@ -75,12 +75,12 @@ shown current then xs l r g = subst (λ (i : MaybeImage). Good i then xs l r) (s
 -- a save begun at a line other than 0, from what is Good of the bytes of its row
 begin_at : (st : State) (l r new current : List ℕ) → Sized l r new → (status_of l r).state ≡ st → (line_of st ≡ 0 → ⊥)
     → Good (some current) (some new)
-    (saves_list st new (word_bytes (row_of st).0 (drop 4 l)) (word_bytes (row_of st).1 (drop 4 r)))
-    (word_bytes (row_of st).0 (drop 4 l)) (word_bytes (row_of st).1 (drop 4 r))
+    (saves_list st new (bytes_of (row_of st).0 (drop 4 l)) (bytes_of (row_of st).1 (drop 4 r)))
+    (bytes_of (row_of st).0 (drop 4 l)) (bytes_of (row_of st).1 (drop 4 r))
     → Saves st new l r
 begin_at st l r new current z e h g =
-    let x = word_bytes (row_of st).0 (drop 4 l) in
-    let y = word_bytes (row_of st).1 (drop 4 r) in
+    let x = bytes_of (row_of st).0 (drop 4 l) in
+    let y = bytes_of (row_of st).1 (drop 4 r) in
     let n : length l ≡ 4 + length new = z.left in
     let m : length r ≡ 4 + length new = z.right in
     from_row (Saves st new) l r st z.bytes_left z.bytes_right (omega arith) (omega arith) e h

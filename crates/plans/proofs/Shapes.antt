@@ -24,7 +24,7 @@ use Rattle.pages.specs.declared.Live.{Live}
 use Rattle.pages.specs.declared.Live.TheVariants.{Nowhere, On}
 use Rattle.pages.specs.declared.Status.{Status}
 use Rattle.pages.specs.declared.Row.{Row}
-use Rattle.pages.specs.Pages.{on_side, word_from, word_of, word_bytes, table, look, line_of, row_of, status_of}
+use Rattle.pages.specs.Pages.{on_side, word_from, word_of, table, look, line_of, row_of, status_of}
 use Rattle.pages.proofs.Table.{All, words_of}
 use Rattle.steps.specs.Steps.{Tried, on_page}
 use Rattle.images.specs.Images.{image_on, live_image}
@@ -47,35 +47,38 @@ abbrev pub unborn : List ℕ → List ℕ
 unborn im = 0xFF ∷ 0xFF ∷ 0x00 ∷ 0xFF ∷ im
 
 -- a page is the four bytes of its word before its image
+abbrev pub bytes_of : ℕ → List ℕ → List ℕ
+bytes_of w im = w % 256 ∷ w / 256 % 256 ∷ w / 65536 % 256 ∷ w / 16777216 ∷ im
+
 join : {a b c e a' b' c' e' : ℕ} {im : List ℕ} → a ≡ a' → b ≡ b' → c ≡ c' → e ≡ e'
     → a ∷ b ∷ c ∷ e ∷ im ≡ a' ∷ b' ∷ c' ∷ e' ∷ im
 join {im = im} p q u v = λ i. p i ∷ q i ∷ u i ∷ v i ∷ im
 
-word_bytes_lem : (a b c e : ℕ) (im : List ℕ) → a < 256 → b < 256 → c < 256 → e < 256
-    → a ∷ b ∷ c ∷ e ∷ im ≡ word_bytes (word_from a b c e) im
-word_bytes_lem a b c e im ha hb hc he = join (omega arith) (omega arith) (omega arith) (omega arith)
+word_bytes : (a b c e : ℕ) (im : List ℕ) → a < 256 → b < 256 → c < 256 → e < 256
+    → a ∷ b ∷ c ∷ e ∷ im ≡ bytes_of (word_from a b c e) im
+word_bytes a b c e im ha hb hc he = join (omega arith) (omega arith) (omega arith) (omega arith)
 
-pub by_word : (l : List ℕ) → Bytes l → 4 ≤ length l → l ≡ word_bytes (word_of l) (drop 4 l)
+pub by_word : (l : List ℕ) → Bytes l → 4 ≤ length l → l ≡ bytes_of (word_of l) (drop 4 l)
 unfolding word_of
 by_word [] h k = absurd (omega arith)
 by_word (a ∷ []) h k = absurd (omega arith)
 by_word (a ∷ b ∷ []) h k = absurd (omega arith)
 by_word (a ∷ b ∷ c ∷ []) h k = absurd (omega arith)
-by_word (a ∷ b ∷ c ∷ e ∷ im) h k = word_bytes_lem a b c e im h.0 h.1.0 h.1.1.0 h.1.1.1.0
+by_word (a ∷ b ∷ c ∷ e ∷ im) h k = word_bytes a b c e im h.0 h.1.0 h.1.1.0 h.1.1.1.0
 
 -- so a known word is known bytes
-pub shaped : (l : List ℕ) (w : ℕ) → Bytes l → 4 ≤ length l → word_of l ≡ w → l ≡ word_bytes w (drop 4 l)
-shaped l w h k e = by_word l h k ∙ ap (λ (x : ℕ). word_bytes x (drop 4 l)) e
+pub shaped : (l : List ℕ) (w : ℕ) → Bytes l → 4 ≤ length l → word_of l ≡ w → l ≡ bytes_of w (drop 4 l)
+shaped l w h k e = by_word l h k ∙ ap (λ (x : ℕ). bytes_of x (drop 4 l)) e
 
 -- pages of bytes at a line other than 0 are the bytes of its row before their images
 pub from_row : (P : List ℕ → List ℕ → Type 0) (l r : List ℕ) (st : State) → Bytes l → Bytes r → 4 ≤ length l
     → 4 ≤ length r → (status_of l r).state ≡ st → (line_of st ≡ 0 → ⊥)
-    → P (word_bytes (row_of st).0 (drop 4 l)) (word_bytes (row_of st).1 (drop 4 r)) → P l r
+    → P (bytes_of (row_of st).0 (drop 4 l)) (bytes_of (row_of st).1 (drop 4 r)) → P l r
 from_row P l r st bl br nl nr e h p =
     let w = words_of l r st e h in
-    let a : l ≡ word_bytes (row_of st).0 (drop 4 l) = shaped l (row_of st).0 bl nl w.0 in
-    let b : r ≡ word_bytes (row_of st).1 (drop 4 r) = shaped r (row_of st).1 br nr w.1 in
-    subst (λ (k : List ℕ). P k r) (sym a) (subst (P (word_bytes (row_of st).0 (drop 4 l))) (sym b) p)
+    let a : l ≡ bytes_of (row_of st).0 (drop 4 l) = shaped l (row_of st).0 bl nl w.0 in
+    let b : r ≡ bytes_of (row_of st).1 (drop 4 r) = shaped r (row_of st).1 br nr w.1 in
+    subst (λ (k : List ℕ). P k r) (sym a) (subst (P (bytes_of (row_of st).0 (drop 4 l))) (sym b) p)
 
 -- ---- marks
 abbrev made_as : List ℕ → Outcome

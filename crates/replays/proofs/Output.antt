@@ -18,7 +18,7 @@ use lib.ListN.{
   drop_of_length-le,
   replicate-append-replicate,
 }
-use lib.Seq.{drop_at, drop-drop, length-take-le, set_split, take_all, take_at, take-nil}
+use lib.Seq.{drop_at, drop-drop, length-take-le, set_split, take_all, take_at, take-length, take-nil}
 use borrow.Rule.Slice.PartMut.{mid_of, put_mid}
 use Rattle.images.specs.Images.{overlaid}
 use Rattle.images.proofs.Overlay.{length_overlaid, overlaid_nothing, data_back, overlaid_apart, overlaid_next}
@@ -83,9 +83,24 @@ all_end xs ys at count i v h e =
     let k : i - at ≡ count = omega arith in
     e ∙ ap (λ (m : ℕ). overlaid xs at (replicate m v)) k
 
-pub part_overlaid : (xs d ys : List ℕ) (i k : ℕ) → k ≡ length d → ys ≡ d → put_mid i k xs ys ≡ overlaid xs i d
+pub part_overlaid : (xs d ys : List ℕ) (i : ℕ) → i + length d ≤ length xs
+    → ys ≡ take (length d) d ++ drop (length d) (mid_of i (length xs - i) xs)
+    → put_mid i (length xs - i) xs ys ≡ overlaid xs i d
 unfolding overlaid
-part_overlaid xs d ys i k n e =
+part_overlaid xs d ys i h e =
+    let n : length (drop i xs) ≡ length xs - i = length-drop i xs in
+    let past : drop (length xs - i) (drop i xs) ≡ [] = drop_of_length-le (drop i xs) {i = length xs - i}
+    (omega arith) in
+    let here : mid_of i (length xs - i) xs ≡ drop i xs = take_all (length xs - i) (drop i xs) (omega arith) in
+    let all : ys ≡ d ++ drop (i + length d) xs =
+    e ∙ (λ j. take-length d j ++ drop (length d) (here j))
+    ∙ ap (λ (t : List ℕ). d ++ t) (drop-drop (length d) i xs) in
+    ap (λ (t : List ℕ). take i xs ++ (ys ++ t)) past ∙ ap (λ (t : List ℕ). take i xs ++ t) (append-nil ys ∙ all)
+
+-- and where all of a part is written
+pub part_filled : (xs d ys : List ℕ) (i k : ℕ) → k ≡ length d → ys ≡ d → put_mid i k xs ys ≡ overlaid xs i d
+unfolding overlaid
+part_filled xs d ys i k n e =
     (λ j. take i xs ++ (e j ++ drop (n j) (drop i xs)))
     ∙ ap (λ (t : List ℕ). take i xs ++ (d ++ t)) (drop-drop (length d) i xs)
 

@@ -154,6 +154,7 @@ def odd_scripts():
 
 
 ODD_NAME = b'odd \x1B[2J\nok: "shown"\\\xC3\xA9\xFF\x7F.bin'
+ODD_TEXT = ODD_NAME.replace(b'\xFF', b'')      # the same as text: UTF-8
 
 
 def make_links(folder):
@@ -188,7 +189,8 @@ def make_folder(folder):
     (folder / 'no-folder' / 'samples').touch()
     for name, data in {**odd_pages(), **one_file_dumps(), **odd_scripts()}.items():
         (folder / name).write_bytes(data)
-    shutil.copy(folder / 'samples' / 'line3-left.bin', os.fsencode(folder) + b'/' + ODD_NAME)
+    for name in ODD_NAME, ODD_TEXT:
+        shutil.copy(folder / 'samples' / 'line3-left.bin', os.fsencode(folder) + b'/' + name)
     shutil.copy(folder / 'samples' / 'line3-left.bin', folder / '--left')
     shutil.copy(folder / 'samples' / 'line3-left.bin', folder / '-left')
     shutil.copy(folder / 'samples' / 'line0-left.bin', folder / 'line0-left-copy.bin')

@@ -1,5 +1,4 @@
-// The erased test by itself, for hosts that try it at every length and measure it. No board links it:
-// the calls for firmware are those of the crate fretgalaxy.
+// The erased test by itself, for hosts that try it at every length and measure it. No board links it.
 #![tactic(auto)]
 
 ghost use Rattle.std.specs.Prelude.{◌≡◌};

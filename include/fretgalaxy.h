@@ -9,10 +9,9 @@
  * Building
  *
  * Link target/staticlib/libfretgalaxy.a, which `tools/build fretgalaxy` makes. It is for x86-64
- * Linux: ELF objects and that system's calling convention, on a processor of the level x86-64-v2 or
- * above, which it doesn't test. The library keeps nothing between calls. Of C's functions it calls
- * those on the next line and no others. A host without a C library supplies them; either may be
- * called with length 0, and then with any pointers.
+ * Linux: ELF objects and that system's calling convention. The library keeps nothing between calls.
+ * Of C's functions it calls those on the next line and no others. A host without a C library
+ * supplies them; either may be called with length 0, and then with any pointers.
  *
  * Calls: memmove memset
  *

@@ -4,756 +4,495 @@
 #![tactic(auto)]
 
 use asks::Call;
-use boards::{Answer, Hand};
+use boards::Answer;
 use copies::first;
-use flash::Cell;
 use listings::Listing;
 use pages::{ImageOffset, Side};
-use plans::Spot;
+use plans::{ImageCell, Spot};
 use prints::Output;
 use sessions::{Answered, Session};
+use std::fmt;
+use std::fmt::Write;
 use steps::Step;
 use verdicts::{Tally, Verdict};
-use views::Event;
+use views::{Counts, Event, InWords, Rows, Shown, Words};
 use walks::Walk;
 
-// What a replay has printed so far: its lines; how many bytes a read showed before the call, and before
-// the walk in hand; whether the next step is one of a run that is printed as one line, and how many such
-// steps are made and not printed; and what a read showed after cuts and at the end of walks.
+// A script, and the pages as they are while it is made.
+#[derive(Clone, Copy)]
+pub struct Scene<'a> {
+    pub text: &'a [u8],
+    pub left: &'a [u8],
+    pub right: &'a [u8],
+}
+
+// An image that a read showed: the first bytes of a buffer, since memory is fixed; none where the read
+// was answered 5.
+#[derive(Clone, Copy)]
+struct Image {
+    bytes: [u8; pages::MAX_PAGE],
+    len: usize,
+}
+
+// How often a read was judged, and what it showed.
+#[derive(Clone, Copy)]
+struct Judged {
+    times: u64,
+    tally: Tally,
+}
+
+// What a replay has printed so far: its lines; what a read showed before the call, and before the walk
+// in hand; whether the next step is one of a run that is printed as one line, and how many such steps
+// are made and not printed; and what a read showed after cuts and at the end of walks.
 #[derive(Clone, Copy)]
 pub struct Report {
     listing: Listing,
-    shown: usize,
-    old: usize,
+    shown: Image,
+    old: Image,
     folds: bool,
     folded: u32,
-    cuts: Tally,
-    cut: u64,
-    ends: Tally,
-    ended: u64,
-}
-
-impl Report {
-    pub fn new() -> Report {
-        Report {
-            listing: Listing::new(),
-            shown: 0,
-            old: 0,
-            folds: false,
-            folded: 0,
-            cuts: Tally::new(),
-            cut: 0,
-            ends: Tally::new(),
-            ended: 0,
-        }
-    }
-}
-
-// ---- a step
-// The number of an image cell of a page, FFFF where it has none.
-fn value_at(page: &[u8], at: ImageOffset) -> u16 {
-    match flash::cell_at(page, at.to_page().0 as usize) {
-        Cell::Holds(value) => value,
-        Cell::Outside => 65535,
-    }
-}
-
-fn value_on(side: Side, left: &[u8], right: &[u8], at: ImageOffset) -> u16 {
-    match side {
-        Side::Left => value_at(left, at),
-        Side::Right => value_at(right, at),
-    }
-}
-
-// Prints what stands at a place of a walk and was made on the pages: an image cell by the number
-// that it then has.
-fn made(out: &mut Output, spot: Spot, left: &[u8], right: &[u8]) {
-    match spot {
-        Spot::Fixed(entry) => {
-            let step = entry.step;
-            views::step(out, step);
-            views::deciding_store(out, entry.commits);
-        }
-        Spot::Cell(_, side, at) => views::step(
-            out,
-            Step::Image(side, at, value_on(side, left, right, at)),
-        ),
-        Spot::Beyond => {}
-    }
-}
-
-// Prints the step at a walk's place, which was made on the pages.
-fn step(out: &mut Output, walk: Walk, left: &[u8], right: &[u8]) {
-    prints::filled(
-        out,
-        b"  step # of #: ",
-        &[walk.place as u64 + 1, walk.total() as u64],
-    );
-    made(out, views::spot(walk, walk.place), left, right);
-    prints::text(out, b"\n");
-}
-
-// ---- a cut
-// Prints where in a walk that has steps left, and has made some, the power is cut.
-fn between(out: &mut Output, walk: Walk) {
-    prints::filled(
-        out,
-        b" after step # of #",
-        &[walk.place as u64, walk.total() as u64],
-    );
-    if walk.place < views::deciding(walk) {
-        prints::text(out, b", before the deciding store");
-    } else {
-        prints::text(out, b", at or after the deciding store");
-    }
-}
-
-// Prints where in a walk the power is cut.
-fn moment(out: &mut Output, walk: Walk, event: Event) {
-    if walk.place == walk.total() {
-        views::by_event(out, b" after the save's end| after the format's end", event);
-    } else if walk.place == 0 {
-        prints::filled(out, b" before step 1 of #", &[walk.total() as u64]);
-    } else {
-        between(out, walk);
-    }
-}
-
-// Prints what then stays.
-fn stays(out: &mut Output, walk: Walk, event: Event) {
-    if walk.place < views::deciding(walk) {
-        views::by_event(
-            out,
-            b": all stays as before the save\n|: all stays as before the format\n",
-            event,
-        );
-    } else {
-        views::by_event(out, b": the save stays\n|: the format stays\n", event);
-    }
-}
-
-// Prints what a cut does to a walk.
-fn cut(out: &mut Output, walk: Walk) {
-    let request = walk.request;
-    let event = views::event_of(request);
-    prints::text(out, b"  the power is cut");
-    moment(out, walk, event);
-    stays(out, walk, event);
-}
-
-// ---- numbers and bytes
-fn meaning(out: &mut Output, number: u8) {
-    prints::item(
-        out,
-        b"|the pages have no legal length|the offset or the length is odd|the offset is below 4|past the end of the page|no page is live|the step doesn't fit, nothing is changed",
-        number as usize,
-    );
-}
-
-fn number(out: &mut Output, refusal: u8) {
-    prints::filled(out, b"  number #: ", &[refusal as u64]);
-    meaning(out, refusal);
-}
-
-// Prints that a call is refused with one of document 01's numbers.
-fn refused(out: &mut Output, refusal: u8) {
-    number(out, refusal);
-    prints::text(out, b"\n");
-}
-
-// Prints a byte, with a blank before it unless it is the first.
-fn byte(out: &mut Output, b: u8, first: bool) {
-    if first {
-        prints::hex(out, b as u64, 2);
-    } else {
-        prints::filled(out, b" %", &[b as u64]);
-    }
-}
-
-fn each_byte(out: &mut Output, part: &[u8]) {
-    for i in 0..part.len() {
-        byte(out, part[i], i == 0);
-    }
-}
-
-fn bytes(out: &mut Output, part: &[u8]) {
-    if part.len() == 0 {
-        prints::text(out, b"no bytes");
-    } else {
-        each_byte(out, part);
-    }
-}
-
-// Prints the bytes that a read gives.
-fn given(out: &mut Output, part: &[u8]) {
-    prints::text(out, b"  given: ");
-    bytes(out, part);
-    prints::text(out, b"\n");
-}
-
-// Prints the answer to a copy by its number, 0 where it is none, with what its output then holds.
-fn copy(out: &mut Output, refusal: u8, output: &[u8]) {
-    if refusal == 0 {
-        given(out, output);
-    } else {
-        number(out, refusal);
-        prints::text(out, b"; the output holds ");
-        bytes(out, output);
-        prints::text(out, b"\n");
-    }
+    cuts: Judged,
+    ends: Judged,
 }
 
 // ---- the pages
-// Prints an image as far as it isn't the one before, of which none counts as another.
-fn show_image(out: &mut Output, image: &[u8], before: &[u8]) {
-    if image.len() == 0 {
-        prints::text(out, b"; a read is answered 5\n");
-    } else if check::same(image, before) {
-        prints::text(out, b"; a read shows the same\n");
-    } else {
-        prints::text(out, b"; a read shows\n");
-        views::image_change(out, image, before);
+// What a read shows beside what it showed before, of which no bytes count as another: the end of a line,
+// and the rows of an image that isn't the same.
+#[derive(Clone, Copy)]
+struct Seen<'a> {
+    image: &'a [u8],
+    before: &'a [u8],
+}
+
+impl fmt::Display for Seen<'_> {
+    fn fmt<W: fmt::Write>(&self, f: &mut fmt::Formatter<W>) -> fmt::Result {
+        let Seen { image, before } = *self;
+        if image.is_empty() {
+            writeln!(f, "; a read is answered 5")
+        } else if image == before {
+            writeln!(f, "; a read shows the same")
+        } else {
+            let before = Some(before);
+            write!(f, "; a read shows\n{}", Rows { image, before })
+        }
     }
 }
 
-// Prints the pages and what a read shows, beside what it showed before.
-pub fn show<'a>(out: &mut Output, left: &'a [u8], right: &'a [u8], before: &[u8]) {
-    prints::text(out, b"  ");
-    views::words(out, left, right);
-    show_image(out, verdicts::image(left, right), before);
-}
+impl Image {
+    fn new() -> Image {
+        Image {
+            bytes: turns::blank(),
+            len: 0,
+        }
+    }
 
-// ---- a run of image cells
-fn print_side(out: &mut Output, spot: Spot) {
-    match spot {
-        Spot::Fixed(_) => {}
-        Spot::Cell(_, side, _) => views::side(out, side),
-        Spot::Beyond => {}
+    fn bytes(&self) -> &[u8] {
+        first(&self.bytes, self.len)
+    }
+
+    fn keep(&mut self, image: &[u8]) {
+        copies::copy(image, &mut self.bytes);
+        self.len = image.len();
     }
 }
 
-// Prints which of its steps a walk made last, so many.
-fn print_last(out: &mut Output, walk: Walk, count: u32) {
-    let last = walk.place as u64;
-    let total = walk.total() as u64;
-    if count == 1 {
-        prints::filled(
-            out,
-            b"  step # of #: program an image cell of ",
-            &[last, total],
-        );
-    } else {
-        prints::filled(
-            out,
-            b"  steps # to # of #: program image cells of ",
-            &[
-                std::num::wrapping_sub_u64(last + 1, count as u64),
-                last,
-                total,
-            ],
-        );
+impl<'a> Scene<'a> {
+    // What a read of the whole image shows.
+    fn image(self) -> &'a [u8] {
+        verdicts::image(self.left, self.right)
+    }
+
+    // Prints the pages and what a read shows, beside what it showed before.
+    fn print(self, out: &mut Output, before: &[u8]) -> fmt::Result {
+        let Scene { left, right, .. } = self;
+        let image = self.image();
+        write!(out, "  {}{}", Words { left, right }, Seen { image, before })
+    }
+
+    // What the next line of a session asks for, where it is right.
+    fn asks(self, session: Session) -> Option<Call> {
+        asks::parse(texts::line_at(self.text, session.at))
+            .ok()
+            .flatten()
+    }
+
+    // The number of an image cell, FFFF where there is none.
+    fn value(self, side: Side, at: ImageOffset) -> u16 {
+        let page = side.pick(self.left, self.right);
+        flash::cell_at(page, at.to_page().0 as usize).unwrap_or(0xFFFF)
+    }
+
+    // What a read shows of the walk in hand beside the image before it. The walk's data is that of the
+    // line that began it.
+    fn judge(self, session: Session, walk: Walk, old: &[u8]) -> Shown {
+        let mut room = turns::blank();
+        let size = turns::load(self.text, session.began, &mut room);
+        let data = first(&room, size);
+        Shown {
+            verdict: verdicts::judge(walk.request, self.image(), old, walk.offset, data),
+            event: Event::from(walk.request),
+        }
+    }
+
+    // What a read shows beside the image before a cut with nothing under way.
+    fn judge_idle(self, before: &[u8]) -> Shown {
+        let image = self.image();
+        let verdict = if image != before {
+            Verdict::Another
+        } else if image.is_empty() {
+            Verdict::NoImage
+        } else {
+            Verdict::Old
+        };
+        Shown {
+            verdict,
+            event: Event::Cut,
+        }
     }
 }
 
-// Prints the last steps of a walk, so many, as one line.
-fn print_run(out: &mut Output, walk: Walk, count: u32) {
-    print_last(out, walk, count);
-    print_side(
-        out,
-        views::spot(walk, std::num::wrapping_sub_u32(walk.place, 1)),
-    );
+// ---- what a read shows
+impl Judged {
+    fn new() -> Judged {
+        Judged {
+            times: 0,
+            tally: Tally::new(),
+        }
+    }
+
+    // Prints what a read shows, and counts it.
+    fn count(&mut self, out: &mut Output, shown: Shown) -> fmt::Result {
+        self.tally = self.tally.with(shown.verdict);
+        self.times = self.times.wrapping_add(1);
+        writeln!(out, "  a read {shown}")
+    }
 }
 
-fn is_cell(walk: Walk) -> bool {
+impl fmt::Display for Judged {
+    fn fmt<W: fmt::Write>(&self, f: &mut fmt::Formatter<W>) -> fmt::Result {
+        let times = self.times;
+        write!(f, "{times}, {}", InWords(self.tally))
+    }
+}
+
+// ---- steps
+// Prints the step at a walk's place, which was made on the pages: an image cell by the number that it
+// then has.
+fn print_step(out: &mut Output, scene: Scene<'_>, walk: Walk) -> fmt::Result {
+    let total = walk.total();
+    write!(out, "  step {} of {total}: ", walk.place as u64 + 1)?;
     match views::spot(walk, walk.place) {
-        Spot::Fixed(_) => false,
-        Spot::Cell(_, _, _) => true,
-        Spot::Beyond => false,
+        Some(Spot::Fixed(entry)) => write!(out, "{}", InWords(entry))?,
+        Some(Spot::Cell(_, ImageCell { side, at })) => {
+            let value = scene.value(side, at);
+            write!(out, "{}", InWords(Step::Image(side, at, value)))?;
+        }
+        None => {}
+    }
+    writeln!(out)
+}
+
+// Prints the last steps of a walk, so many, which program image cells, as one line.
+fn print_run(out: &mut Output, walk: Walk, count: u32) -> fmt::Result {
+    let last = walk.place;
+    let total = walk.total();
+    if count == 1 {
+        write!(out, "  step {last} of {total}: program an image cell of ")?;
+    } else {
+        let from = (last as u64 + 1).wrapping_sub(count as u64);
+        write!(
+            out,
+            "  steps {from} to {last} of {total}: program image cells of "
+        )?;
+    }
+    match views::spot(walk, last.wrapping_sub(1)) {
+        Some(Spot::Cell(_, cell)) => write!(out, "{}", cell.side),
+        _ => Ok(()),
     }
 }
 
 // Whether the next call of a session is a step that programs an image cell.
 fn is_next_cell(session: Session) -> bool {
-    let hand = session.hand;
-    if session.left == 0 {
-        return false;
-    }
-    match hand {
-        Hand::Empty => false,
-        Hand::Holding(walk) => is_cell(walk),
-    }
-}
-
-fn print_cells<'a>(
-    out: &mut Output,
-    hand: Hand,
-    count: u32,
-    left: &'a [u8],
-    right: &'a [u8],
-    shown: &[u8],
-) {
-    match hand {
-        Hand::Empty => {}
-        Hand::Holding(walk) => {
-            print_run(out, walk, count);
-            show_image(out, verdicts::image(left, right), shown);
+    match session.hand {
+        Some(walk) if session.left != 0 => {
+            matches!(views::spot(walk, walk.place), Some(Spot::Cell(..)))
         }
+        _ => false,
     }
-}
-
-// Prints the run of image cells that isn't printed yet.
-fn end_run<'a>(
-    out: &mut Output,
-    report: Report,
-    session: Session,
-    left: &'a [u8],
-    right: &'a [u8],
-    shown: &[u8],
-) -> Report {
-    if report.folded == 0 {
-        return report;
-    }
-    let hand = session.hand;
-    print_cells(
-        out,
-        hand,
-        report.folded,
-        left,
-        right,
-        first(shown, report.shown),
-    );
-    let mut next = report;
-    next.folded = 0;
-    next
-}
-
-// ---- before a call
-// Keeps what a read shows, unless a run of image cells goes on.
-fn keep_shown<'a>(report: Report, left: &'a [u8], right: &'a [u8], shown: &mut [u8]) -> Report {
-    if 0 < report.folded {
-        return report;
-    }
-    let image = verdicts::image(left, right);
-    copies::copy(image, shown);
-    let mut next = report;
-    next.shown = image.len();
-    next
-}
-
-// Prints the next line of a script where one is taken.
-fn print_line(out: &mut Output, report: Report, session: Session, text: &[u8]) -> Report {
-    if 0 < session.left {
-        return report;
-    }
-    let before = report.listing;
-    let listing = listings::print_next(out, before, text, session.at);
-    let mut next = report;
-    next.listing = listing;
-    next
-}
-
-// Whether the next step is printed in one line with others.
-fn sets_folds(report: Report, folds: bool) -> Report {
-    let mut next = report;
-    next.folds = folds;
-    next
-}
-
-// Prints what comes before the next call of a session, over the pages before it, and keeps what a read
-// shows. With `all` every step has its own lines.
-pub fn before<'a>(
-    out: &mut Output,
-    report: Report,
-    session: Session,
-    text: &[u8],
-    left: &'a [u8],
-    right: &'a [u8],
-    all: bool,
-    shown: &mut [u8],
-) -> Report {
-    if !all {
-        if is_next_cell(session) {
-            return keep_shown(sets_folds(report, true), left, right, shown);
-        }
-    }
-    let ended = end_run(out, report, session, left, right, shown);
-    let kept = keep_shown(sets_folds(ended, false), left, right, shown);
-    print_line(out, kept, session, text)
 }
 
 // ---- answers
-fn print_begun(out: &mut Output, hand: Hand) {
-    match hand {
-        Hand::Empty => {}
-        Hand::Holding(walk) => {
-            prints::text(out, b"  begun: ");
-            views::counts(out, walk);
+// The meaning of a refusal's number.
+fn meaning(number: u8) -> &'static str {
+    match number {
+        1 => "the pages have no legal length",
+        2 => "the offset or the length is odd",
+        3 => "the offset is below 4",
+        4 => "past the end of the page",
+        5 => "no page is live",
+        6 => "the step doesn't fit, nothing is changed",
+        _ => "",
+    }
+}
+
+// Bytes in hexadecimal, parted by blanks.
+#[derive(Clone, Copy)]
+struct Bytes<'a>(&'a [u8]);
+
+impl fmt::Display for Bytes<'_> {
+    fn fmt<W: fmt::Write>(&self, f: &mut fmt::Formatter<W>) -> fmt::Result {
+        let Some((byte, rest)) = self.0.split_first() else {
+            return write!(f, "no bytes");
+        };
+        write!(f, "{byte:02X}")?;
+        for byte in rest {
+            write!(f, " {byte:02X}")?;
+        }
+        Ok(())
+    }
+}
+
+// What a cut does to a walk: where in it the power is cut, and what then stays.
+#[derive(Clone, Copy)]
+struct Cut(Walk);
+
+impl fmt::Display for Cut {
+    fn fmt<W: fmt::Write>(&self, f: &mut fmt::Formatter<W>) -> fmt::Result {
+        let walk = self.0;
+        let place = walk.place;
+        let total = walk.total();
+        let event = Event::from(walk.request);
+        let undecided = views::deciding(walk).is_some_and(|step| place < step);
+        if place == total {
+            write!(f, "after the {event}'s end")?;
+        } else if place == 0 {
+            write!(f, "before step 1 of {total}")?;
+        } else {
+            let side = if undecided { "before" } else { "at or after" };
+            write!(
+                f,
+                "after step {place} of {total}, {side} the deciding store"
+            )?;
+        }
+        if undecided {
+            write!(f, ": all stays as before the {event}")
+        } else {
+            write!(f, ": the {event} stays")
         }
     }
 }
 
 // Prints that a step which has data of its own was handed the held data.
-fn print_handed(out: &mut Output, left: u32) {
-    if left == 0 {
-        prints::text(
+fn print_handed(out: &mut Output, session: Session) -> fmt::Result {
+    if session.left == 0 {
+        writeln!(
             out,
-            b"  the held data was handed over in place of these bytes\n",
-        );
+            "  the held data was handed over in place of these bytes"
+        )?;
     }
+    Ok(())
 }
 
-// Prints the step that was made of the walk that was in hand.
-fn print_step(out: &mut Output, hand: Hand, left: &[u8], right: &[u8]) {
+fn print_idle(out: &mut Output) -> fmt::Result {
+    writeln!(out, "  no walk is in hand: nothing happens")
+}
+
+fn print_cut(out: &mut Output, scene: Scene<'_>, hand: Option<Walk>) -> fmt::Result {
     match hand {
-        Hand::Empty => {}
-        Hand::Holding(walk) => step(out, walk, left, right),
+        None => write!(out, "  the power is cut: no save or format is under way")?,
+        Some(walk) => write!(out, "  the power is cut {}", Cut(walk))?,
+    }
+    writeln!(out)?;
+    scene.print(out, scene.image())
+}
+
+// Prints what has no answer: a step with no walk, a cut, or a line with no call.
+fn print_nothing(out: &mut Output, scene: Scene<'_>, session: Session) -> fmt::Result {
+    if session.left != 0 {
+        return print_idle(out);
+    }
+    match scene.asks(session) {
+        Some(Call::Cut) => print_cut(out, scene, session.hand),
+        Some(Call::StepWith) => print_idle(out),
+        _ => Ok(()),
     }
 }
 
-// Prints it, and the pages after it.
-fn print_made<'a>(
-    out: &mut Output,
-    session: Session,
-    left: &'a [u8],
-    right: &'a [u8],
-    before: &[u8],
-) {
-    let hand = session.hand;
-    print_handed(out, session.left);
-    print_step(out, hand, left, right);
-    show(out, left, right, before);
-}
-
-fn print_lost(out: &mut Output, hand: Hand) {
-    match hand {
-        Hand::Empty => prints::text(out, b"  the power is cut: no save or format is under way\n"),
-        Hand::Holding(walk) => cut(out, walk),
-    }
-}
-
-fn print_cut<'a>(out: &mut Output, hand: Hand, left: &'a [u8], right: &'a [u8]) {
-    print_lost(out, hand);
-    show(out, left, right, verdicts::image(left, right));
-}
-
-fn print_idle(out: &mut Output) {
-    prints::text(out, b"  no walk is in hand: nothing happens\n");
-}
-
-// Prints what has no answer: a cut, a step with no walk, or a line with no call.
-fn print_none<'a>(out: &mut Output, line: &[u8], hand: Hand, left: &'a [u8], right: &'a [u8]) {
-    match asks::parse(line) {
-        Call::Cut => print_cut(out, hand, left, right),
-        Call::StepWith => print_idle(out),
-        _ => {}
-    }
-}
-
-fn print_nothing<'a>(
-    out: &mut Output,
-    session: Session,
-    text: &[u8],
-    left: &'a [u8],
-    right: &'a [u8],
-) {
-    let hand = session.hand;
-    if 0 < session.left {
-        print_idle(out);
-    } else {
-        print_none(out, texts::line_at(text, session.at), hand, left, right);
-    }
-}
-
-// Prints the answer to a call of a session, over the pages after it.
-fn print_answer<'a>(
-    out: &mut Output,
-    answered: Answered,
-    session: Session,
-    text: &[u8],
-    left: &'a [u8],
-    right: &'a [u8],
-    before: &[u8],
-    output: &[u8],
-) {
-    let answer = answered.answer;
-    match answer {
-        Answer::Nothing => print_nothing(out, session, text, left, right),
-        Answer::Begun => {
-            let next = answered.session;
-            let begun = next.hand;
-            print_begun(out, begun);
+// ---- a report
+impl Report {
+    pub fn new() -> Report {
+        Report {
+            listing: Listing::new(),
+            shown: Image::new(),
+            old: Image::new(),
+            folds: false,
+            folded: 0,
+            cuts: Judged::new(),
+            ends: Judged::new(),
         }
-        Answer::Made => print_made(out, session, left, right, before),
-        Answer::Ended => {
-            print_handed(out, session.left);
-            prints::text(out, b"  ended: no step is left\n");
+    }
+
+    // Prints the pages before the first call, after the end of a line.
+    pub fn start(&self, out: &mut Output, scene: Scene<'_>) -> fmt::Result {
+        writeln!(out, "\nat first")?;
+        scene.print(out, self.shown.bytes())
+    }
+
+    // Prints what comes before the next call of a session, over the pages before it, and keeps what a
+    // read shows. With `all` every step has its own lines.
+    pub fn before(
+        &mut self,
+        out: &mut Output,
+        scene: Scene<'_>,
+        session: Session,
+        all: bool,
+    ) -> fmt::Result {
+        self.folds = !all && is_next_cell(session);
+        if !self.folds {
+            self.end_run(out, scene, session.hand)?;
         }
-        Answer::Number(number) => refused(out, number),
-        Answer::Part(offset, len) => given(out, reads::read(left, right, offset, len)),
-        Answer::Output(number) => copy(out, number, output),
+        if self.folded == 0 {
+            self.shown.keep(scene.image());
+        }
+        if self.folds || session.left != 0 {
+            return Ok(());
+        }
+        self.listing.print_next(out, scene.text, session.at)
     }
-}
 
-// ---- what a read shows
-// What a read shows beside the image before a walk, whose data is that of the line at a place.
-fn verdict_of<'a>(
-    walk: Walk,
-    text: &[u8],
-    began: usize,
-    left: &'a [u8],
-    right: &'a [u8],
-    old: &[u8],
-) -> Verdict {
-    let mut data = turns::blank();
-    let size = turns::load(text, began, &mut data);
-    let request = walk.request;
-    let offset = walk.offset;
-    verdicts::judge(
-        request,
-        verdicts::image(left, right),
-        old,
-        offset,
-        first(&data, size),
-    )
-}
-
-// What a read shows beside the image before a cut with nothing under way.
-fn idle_verdict(image: &[u8], before: &[u8]) -> Verdict {
-    if !check::same(image, before) {
-        return Verdict::Another;
+    // Prints the answer to a call of a session, over the pages after it, and what a read then shows.
+    pub fn after(
+        &mut self,
+        out: &mut Output,
+        scene: Scene<'_>,
+        session: Session,
+        answered: Answered,
+        output: &[u8],
+    ) -> fmt::Result {
+        if self.folds && matches!(answered.answer, Answer::Made) {
+            self.folded = self.folded.wrapping_add(1);
+            return Ok(());
+        }
+        self.print_answer(out, scene, session, answered, output)?;
+        self.judge(out, scene, session, answered)
     }
-    if image.len() == 0 {
-        return Verdict::NoImage;
+
+    // Prints what stands at the end of a script that was made.
+    pub fn end(&mut self, out: &mut Output, scene: Scene<'_>, session: Session) -> fmt::Result {
+        self.end_run(out, scene, session.hand)?;
+        writeln!(out, "cuts: {}", self.cuts)?;
+        writeln!(out, "ended: {}", self.ends)?;
+        if verdicts::has_another(self.cuts.tally) || verdicts::has_another(self.ends.tally) {
+            writeln!(out, "failed: a read showed another image")
+        } else {
+            writeln!(
+                out,
+                "ok: replayed, calls: {}",
+                listings::calls_in(scene.text)
+            )
+        }
     }
-    Verdict::Old
-}
 
-fn print_shown(out: &mut Output, verdict: Verdict, event: Event) {
-    prints::text(out, b"  a read ");
-    views::print_verdict(out, verdict, event);
-}
-
-fn walk_event(walk: Walk) -> Event {
-    let request = walk.request;
-    views::event_of(request)
-}
-
-// Counts and prints what a read shows after a cut.
-fn count_cut(out: &mut Output, report: Report, verdict: Verdict, event: Event) -> Report {
-    print_shown(out, verdict, event);
-    let mut next = report;
-    let before = report.cuts;
-    let cuts = before.with(verdict);
-    next.cuts = cuts;
-    next.cut = std::num::wrapping_add_u64(report.cut, 1);
-    next
-}
-
-// Counts and prints what a read shows at the end of a walk.
-fn count_end(out: &mut Output, report: Report, verdict: Verdict, event: Event) -> Report {
-    print_shown(out, verdict, event);
-    let mut next = report;
-    let before = report.ends;
-    let ends = before.with(verdict);
-    next.ends = ends;
-    next.ended = std::num::wrapping_add_u64(report.ended, 1);
-    next
-}
-
-// After the walk in hand was begun or stepped: where it has no step left, what a read shows.
-fn end_walk<'a>(
-    out: &mut Output,
-    report: Report,
-    session: Session,
-    text: &[u8],
-    left: &'a [u8],
-    right: &'a [u8],
-    old: &[u8],
-) -> Report {
-    let hand = session.hand;
-    match hand {
-        Hand::Empty => report,
-        Hand::Holding(walk) => {
-            if walk.place != walk.total() {
-                return report;
+    // Prints the run of image cells that isn't printed yet.
+    fn end_run(&mut self, out: &mut Output, scene: Scene<'_>, hand: Option<Walk>) -> fmt::Result {
+        let count = self.folded;
+        self.folded = 0;
+        match hand {
+            Some(walk) if count != 0 => {
+                print_run(out, walk, count)?;
+                let image = scene.image();
+                let before = self.shown.bytes();
+                write!(out, "{}", Seen { image, before })
             }
-            let verdict = verdict_of(
-                walk,
-                text,
-                session.began,
-                left,
-                right,
-                first(old, report.old),
-            );
-            count_end(out, report, verdict, walk_event(walk))
+            _ => Ok(()),
         }
     }
-}
 
-// Keeps what a read shows where a walk is begun.
-fn keep_old<'a>(report: Report, left: &'a [u8], right: &'a [u8], old: &mut [u8]) -> Report {
-    let image = verdicts::image(left, right);
-    copies::copy(image, old);
-    let mut next = report;
-    next.old = image.len();
-    next
-}
-
-// After a cut: what a read shows.
-fn end_cut<'a>(
-    out: &mut Output,
-    report: Report,
-    session: Session,
-    text: &[u8],
-    left: &'a [u8],
-    right: &'a [u8],
-    shown: &[u8],
-    old: &[u8],
-) -> Report {
-    let hand = session.hand;
-    match hand {
-        Hand::Empty => {
-            let image = verdicts::image(left, right);
-            let verdict = idle_verdict(image, first(shown, report.shown));
-            count_cut(out, report, verdict, Event::Cut)
-        }
-        Hand::Holding(walk) => {
-            let verdict = verdict_of(
-                walk,
-                text,
-                session.began,
-                left,
-                right,
-                first(old, report.old),
-            );
-            count_cut(out, report, verdict, walk_event(walk))
-        }
-    }
-}
-
-// Whether what has no answer is a cut.
-fn is_cut(session: Session, text: &[u8]) -> bool {
-    if 0 < session.left {
-        return false;
-    }
-    match asks::parse(texts::line_at(text, session.at)) {
-        Call::Cut => true,
-        _ => false,
-    }
-}
-
-// Prints and counts what a read shows after a cut and at the end of a walk.
-fn judge_answer<'a>(
-    out: &mut Output,
-    report: Report,
-    answered: Answered,
-    session: Session,
-    text: &[u8],
-    left: &'a [u8],
-    right: &'a [u8],
-    shown: &[u8],
-    old: &mut [u8],
-) -> Report {
-    let answer = answered.answer;
-    let next = answered.session;
-    match answer {
-        Answer::Begun => {
-            let kept = keep_old(report, left, right, old);
-            end_walk(out, kept, next, text, left, right, old)
-        }
-        Answer::Made => end_walk(out, report, next, text, left, right, old),
-        Answer::Nothing => {
-            if is_cut(session, text) {
-                return end_cut(out, report, session, text, left, right, shown, old);
+    fn print_answer(
+        &self,
+        out: &mut Output,
+        scene: Scene<'_>,
+        session: Session,
+        answered: Answered,
+        output: &[u8],
+    ) -> fmt::Result {
+        match answered.answer {
+            Answer::Nothing => print_nothing(out, scene, session),
+            Answer::Begun => match answered.session.hand {
+                Some(walk) => writeln!(out, "  begun: {}", Counts(walk)),
+                None => Ok(()),
+            },
+            Answer::Made => {
+                print_handed(out, session)?;
+                if let Some(walk) = session.hand {
+                    print_step(out, scene, walk)?;
+                }
+                scene.print(out, self.shown.bytes())
             }
-            report
-        }
-        _ => report,
-    }
-}
-
-fn is_made(answer: Answer) -> bool {
-    match answer {
-        Answer::Made => true,
-        _ => false,
-    }
-}
-
-// Prints the answer to a call of a session, over the pages after it, and what a read then shows.
-pub fn after<'a>(
-    out: &mut Output,
-    report: Report,
-    answered: Answered,
-    session: Session,
-    text: &[u8],
-    left: &'a [u8],
-    right: &'a [u8],
-    shown: &[u8],
-    old: &mut [u8],
-    output: &[u8],
-) -> Report {
-    let answer = answered.answer;
-    if report.folds {
-        if is_made(answer) {
-            let mut next = report;
-            next.folded = std::num::wrapping_add_u32(report.folded, 1);
-            return next;
+            Answer::Ended => {
+                print_handed(out, session)?;
+                writeln!(out, "  ended: no step is left")
+            }
+            Answer::Number(number) => writeln!(out, "  number {number}: {}", meaning(number)),
+            Answer::Part(offset, len) => {
+                let part = reads::read(scene.left, scene.right, offset, len);
+                writeln!(out, "  given: {}", Bytes(part))
+            }
+            Answer::Output(number) => {
+                let output = Bytes(first(output, answered.len));
+                match number {
+                    0 => writeln!(out, "  given: {output}"),
+                    _ => {
+                        let meaning = meaning(number);
+                        writeln!(
+                            out,
+                            "  number {number}: {meaning}; the output holds {output}"
+                        )
+                    }
+                }
+            }
         }
     }
-    print_answer(
-        out,
-        answered,
-        session,
-        text,
-        left,
-        right,
-        first(shown, report.shown),
-        first(output, answered.len),
-    );
-    judge_answer(
-        out, report, answered, session, text, left, right, shown, old,
-    )
-}
 
-// ---- the end
-fn has_another(report: Report) -> bool {
-    let cuts = report.cuts;
-    let ends = report.ends;
-    if verdicts::has_another(cuts) {
-        return true;
+    // Prints and counts what a read shows after a cut and at the end of a walk.
+    fn judge(
+        &mut self,
+        out: &mut Output,
+        scene: Scene<'_>,
+        session: Session,
+        answered: Answered,
+    ) -> fmt::Result {
+        match answered.answer {
+            Answer::Begun => {
+                self.old.keep(scene.image());
+                self.judge_end(out, scene, answered.session)
+            }
+            Answer::Made => self.judge_end(out, scene, answered.session),
+            Answer::Nothing if session.left == 0 => match scene.asks(session) {
+                Some(Call::Cut) => self.judge_cut(out, scene, session),
+                _ => Ok(()),
+            },
+            _ => Ok(()),
+        }
     }
-    verdicts::has_another(ends)
-}
 
-// Prints the last line.
-fn print_end(out: &mut Output, another: bool, text: &[u8]) {
-    if another {
-        prints::text(out, b"failed: a read showed another image\n");
-    } else {
-        prints::filled(
-            out,
-            b"ok: replayed, calls: #\n",
-            &[listings::calls_in(text)],
-        );
+    // After the walk in hand was begun or stepped: where it has no step left, what a read shows.
+    fn judge_end(&mut self, out: &mut Output, scene: Scene<'_>, session: Session) -> fmt::Result {
+        match session.hand {
+            Some(walk) if walk.place == walk.total() => {
+                let shown = scene.judge(session, walk, self.old.bytes());
+                self.ends.count(out, shown)
+            }
+            _ => Ok(()),
+        }
     }
-}
 
-// Prints what stands at the end of a script that was made.
-pub fn end<'a>(
-    out: &mut Output,
-    report: Report,
-    session: Session,
-    text: &[u8],
-    left: &'a [u8],
-    right: &'a [u8],
-    shown: &[u8],
-) {
-    let last = end_run(out, report, session, left, right, shown);
-    let cuts = last.cuts;
-    let ends = last.ends;
-    prints::labelled(out, b"cuts: ", last.cut);
-    views::print_counts(out, cuts);
-    prints::labelled(out, b"ended: ", last.ended);
-    views::print_counts(out, ends);
-    print_end(out, has_another(last), text);
+    // After a cut: what a read shows.
+    fn judge_cut(&mut self, out: &mut Output, scene: Scene<'_>, session: Session) -> fmt::Result {
+        let shown = match session.hand {
+            None => scene.judge_idle(self.shown.bytes()),
+            Some(walk) => scene.judge(session, walk, self.old.bytes()),
+        };
+        self.cuts.count(out, shown)
+    }
 }

@@ -1,12 +1,11 @@
 -- What the benchmark's calls answer, as numbers: each is read off what the library's own definitions
 -- give.
 -- In order: a beginning; a step. Assumes nothing.
-use Rattle.std.specs.Prelude.{ℕ, Bool, false, List, [], ◌∷◌, get_or}
-use Rattle.std.proofs.Math.Option.{Option, none, some}
+use Rattle.std.specs.Prelude.{Option, Some, None}
+use Rattle.std.specs.Prelude.{ℕ, Bool, false, List}
 use Rattle.pages.specs.declared.State.{State}
-use Rattle.pages.specs.declared.State.TheVariants.{S0, S1, S2, S3, S5, S6, S7, S8, S9, S10}
 use Rattle.pages.specs.declared.PageOffset.{PageOffset}
-use Rattle.pages.specs.Pages.{line_of}
+use Rattle.pages.specs.Pages.{line_of, state_from}
 use Rattle.plans.specs.declared.Request.TheVariants.{Save}
 use Rattle.walks.specs.declared.Walk.{Walk}
 use Rattle.walks.specs.declared.Progress as P
@@ -14,8 +13,6 @@ use Rattle.walks.specs.declared.Progress.{Progress}
 use Rattle.walks.specs.Walks as W
 use Rattle.walks.specs.Walks.{Beginning, Said, step_of}
 use Rattle.bench.specs.declared.Start.{Start}
-use Rattle.bench.specs.declared.LineState as L
-use Rattle.bench.specs.declared.LineState.{LineState}
 
 -- ---- a beginning
 -- what a walk keeps that its caller didn't give
@@ -27,29 +24,6 @@ start_in (W.refused k) = record { number = k; line = 0; erased = false }
 start_in (W.begun w) = kept_in w
 
 -- ---- a step
--- the state of each line number from 0 on; 4 is line 1, so no walk keeps it
-abbrev pub states : List (Option State)
-states =
-    some S0
-    ∷ some S1
-    ∷ some S2
-    ∷ some S3
-    ∷ none
-    ∷ some S5
-    ∷ some S6
-    ∷ some S7
-    ∷ some S8
-    ∷ some S9
-    ∷ some S10
-    ∷ []
-
-abbrev pub state_from : ℕ → Option State
-state_from line = get_or states line none
-
-abbrev pub line_in : LineState → Option State
-line_in (L.TheVariants.In state) = some state
-line_in L.TheVariants.Unknown = none
-
 -- 0: made, 1: ended, 6: the step doesn't fit
 abbrev pub code_of : Progress → ℕ
 code_of P.TheVariants.Made = 0
@@ -85,8 +59,8 @@ abbrev pub step_as : W.Outcome → Stepped
 step_as o = record { code = said_code o.said; place = o.walk.place; left = o.left; right = o.right }
 
 abbrev pub step_in : Option State → Bool → ℕ → PageOffset → ℕ → ℕ → List ℕ → List ℕ → List ℕ → Stepped
-step_in none erased page offset n place l r d = record { code = 6; place = place; left = l; right = r }
-step_in (some state) erased page offset n place l r d =
+step_in None erased page offset n place l r d = record { code = 6; place = place; left = l; right = r }
+step_in (Some state) erased page offset n place l r d =
     step_as (step_of (walk_of state erased page offset n place) l r d)
 
 abbrev pub step_from : ℕ → Bool → ℕ → PageOffset → ℕ → ℕ → List ℕ → List ℕ → List ℕ → Stepped

@@ -9,19 +9,12 @@
 
 ghost use Rattle.std.specs.Prelude.{◌≡◌};
 ghost use Rattle.walks.specs.Walks.{begin_save};
-ghost use Rattle.bench.specs.Calls.{
-  kept_in,
-  start_in,
-  state_from,
-  line_in,
-  code_of,
-  Stepped,
-  step_from,
-};
+ghost use Rattle.pages.specs.Pages.{state_from};
+ghost use Rattle.bench.specs.Calls.{kept_in, start_in, code_of, Stepped, step_from};
 
 use pages::{PageOffset, State};
 use plans::Request;
-use walks::{Begun, Progress, Walk};
+use walks::{Progress, Walk};
 
 // A beginning: the number, 0 where the walk is begun, and the line and erased-or-not that it then
 // keeps. What else it keeps the caller gave.
@@ -36,11 +29,9 @@ pub struct Start {
 fn kept_in(walk: Walk) -> Start
     ensures { result ≡ kept_in walk }
 {
-    let start = walk.start;
-    let line = start.line();
     Start {
         number: 0,
-        line: line,
+        line: walk.start.line(),
         erased: walk.erased,
     }
 }
@@ -51,41 +42,23 @@ pub extern "C" fn bench_begin(left: &[u8], right: &[u8], offset: u32, data: &[u8
         «data».now) }
 {
     match Walk::save(left, right, PageOffset(offset), data) {
-        Begun::On(walk) => kept_in(walk),
-        Begun::Refused(why) => {
-            let number = why.number();
-            Start {
-                number: number,
-                line: 0,
-                erased: false,
-            }
-        }
+        Ok(walk) => kept_in(walk),
+        Err(why) => Start {
+            number: why.number(),
+            line: 0,
+            erased: false,
+        },
     }
 }
 
 // ---- one step
-// The state of a line number, or that no state has it.
-#[derive(Clone, Copy)]
-enum LineState {
-    In(State),
-    Unknown,
-}
-
-fn state_of(line: u32) -> LineState
-    ensures { line_in result ≡ state_from line }
+// The state of a line number, if one has it.
+fn state_of(line: u32) -> Option<State>
+    ensures { result ≡ state_from line }
 {
-    match line {
-        0 => LineState::In(State::S0),
-        1 => LineState::In(State::S1),
-        2 => LineState::In(State::S2),
-        3 => LineState::In(State::S3),
-        5 => LineState::In(State::S5),
-        6 => LineState::In(State::S6),
-        7 => LineState::In(State::S7),
-        8 => LineState::In(State::S8),
-        9 => LineState::In(State::S9),
-        10 => LineState::In(State::S10),
-        _ => LineState::Unknown,
+    match u8::try_from(line) {
+        Ok(line) => State::of_line(line),
+        Err(_) => None,
     }
 }
 
@@ -126,25 +99,19 @@ pub extern "C" fn bench_step(
         right.old
         «data».now) }
 {
-    match state_of(line) {
-        LineState::Unknown => 6,
-        LineState::In(state) => {
-            let at = *place;
-            let start = PageOffset(offset);
-            let walk = Walk {
-                request: Request::Save,
-                start: state,
-                erased: erased,
-                page: page,
-                offset: start,
-                len: len,
-                place: at,
-            };
-            let stepped = walk.step(left, right, data);
-            let next = stepped.walk;
-            let progress = stepped.progress;
-            *place = next.place;
-            code_of(progress)
-        }
-    }
+    let Some(state) = state_of(line) else {
+        return 6;
+    };
+    let walk = Walk {
+        request: Request::Save,
+        start: state,
+        erased,
+        page,
+        offset: PageOffset(offset),
+        len,
+        place: *place,
+    };
+    let stepped = walk.step(left, right, data);
+    *place = stepped.walk.place;
+    code_of(stepped.progress)
 }

@@ -26,6 +26,5 @@ pub extern "C" fn bench_format(left: &mut [u8], right: &mut [u8]) -> Whole
         []) }
 {
     let begun = Walk::format(left, right);
-    let empty = [0; 0];
-    bench_walks::walk(begun, left, right, &empty)
+    bench_walks::walk(begun, left, right, &[])
 }

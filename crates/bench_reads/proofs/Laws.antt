@@ -3,9 +3,6 @@ use Prim.Native.Nat.{ℕ}
 use mathlib.Core.Path.{◌≡◌, ap, ◌∙◌}
 use mathlib.Core.List.{List}
 use lib.ListN.{length, get_or}
-use Rattle.flash.specs.Flash.{Outcome}
-use Rattle.reads.specs.declared.Reading.{Reading}
-use Rattle.reads.specs.Reads.{number_in}
 use Rattle.bench_reads.specs.declared.Part.{Part}
 use Rattle.bench_reads.specs.Parts.{seen}
 
@@ -13,9 +10,3 @@ use Rattle.bench_reads.specs.Parts.{seen}
 pub part_seen : (part of : List ℕ) (first : ℕ) → first ≡ get_or part 0 0 → part ≡ of
     → ◌≡◌ {A = Part} (record { len = length part; first = first }) (seen of)
 part_seen part of first e h = (λ i. record { len = length part; first = e i }) ∙ ap seen h
-
--- a copying read whose number was widened
-pub copied : (wide number : ℕ) (reading : Reading) (out : List ℕ) (o : Outcome) → wide ≡ number
-    → number ≡ number_in reading → ◌≡◌ {A = Outcome} (record { number = number_in reading; bytes = out }) o
-    → ◌≡◌ {A = Outcome} (record { number = wide; bytes = out }) o
-copied wide number reading out o e f h = (λ i. record { number = (e ∙ f) i; bytes = out }) ∙ h

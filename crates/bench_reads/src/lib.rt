@@ -21,17 +21,11 @@ pub struct Part {
     pub first: u8,
 }
 
-fn wide(x: u8) -> u32
-    ensures { result ≡ x }
-{
-    x as u32
-}
-
 // The byte at the start, or 0.
 fn first_of(part: &[u8]) -> u8
     ensures { result ≡ get_or part.now 0 0 }
 {
-    if 0 < part.len() { part[0] } else { 0 }
+    part.first().copied().unwrap_or(0)
 }
 
 #[unsafe(no_mangle)]
@@ -46,10 +40,9 @@ pub extern "C" fn bench_part<'a>(left: &'a [u8], right: &'a [u8], offset: u32, l
     ensures { result ≡ seen (read_part left.now right.now (record { 0 = offset }) len) }
 {
     let part = reads::read(left, right, PageOffset(offset), len);
-    let first = first_of(part);
     Part {
         len: part.len(),
-        first: first,
+        first: first_of(part),
     }
 }
 
@@ -68,5 +61,5 @@ pub extern "C" fn bench_copy<'a>(
         out.old) }
 {
     let reading = reads::read_into(left, right, PageOffset(offset), out);
-    wide(reading.number())
+    reads::number_of(reading) as u32
 }

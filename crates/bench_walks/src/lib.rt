@@ -9,7 +9,8 @@ ghost use Rattle.std.specs.Prelude.{◌≡◌};
 ghost use Rattle.walks.specs.Walks.{said_in, beginning_in};
 ghost use Rattle.bench_walks.specs.Whole.{number_said, Walked, walked};
 
-use walks::{Begun, Progress};
+use requests::Refusal;
+use walks::{Progress, Walk};
 
 // More steps than any walk makes: (P - 4) / 2 + 6 at P = 4,096, and one to be told the end.
 const MOST_STEPS: u32 = 2053;
@@ -28,13 +29,12 @@ fn last_number(progress: Progress) -> u32
 {
     match progress {
         Progress::Ended => 0,
-        Progress::Made => 6,
-        Progress::Unfit => 6,
+        Progress::Made | Progress::Unfit => 6,
     }
 }
 
 // Steps what is begun to its end; a refused request has its number and changes nothing.
-pub fn walk(begun: Begun, left: &mut [u8], right: &mut [u8], data: &[u8]) -> Whole
+pub fn walk(begun: Result<Walk, Refusal>, left: &mut [u8], right: &mut [u8], data: &[u8]) -> Whole
     ensures { ◌≡◌ {A = Walked}
         (record {
           number = result.number;
@@ -48,22 +48,16 @@ pub fn walk(begun: Begun, left: &mut [u8], right: &mut [u8], data: &[u8]) -> Who
         «data».now) }
 {
     match begun {
-        Begun::On(walk) => {
+        Ok(walk) => {
             let ran = walk.run(MOST_STEPS, left, right, data);
-            let progress = ran.progress;
-            let number = last_number(progress);
             Whole {
-                number: number,
+                number: last_number(ran.progress),
                 steps: ran.steps,
             }
         }
-        Begun::Refused(why) => {
-            let number = why.number();
-            let wide = number as u32;
-            Whole {
-                number: wide,
-                steps: 0,
-            }
-        }
+        Err(why) => Whole {
+            number: why.number() as u32,
+            steps: 0,
+        },
     }
 }

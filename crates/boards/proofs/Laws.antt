@@ -1,11 +1,12 @@
 -- Calls as the code makes them are the model's.
 -- In order: beginnings; steps; reads; a cut.
 -- Assumes nothing.
+use Rattle.std.specs.Prelude.{Option, Some, None, Result, Ok, Err}
+use Rattle.requests.specs.declared.Refusal.{Refusal}
 use Prim.Native.Nat.{ℕ, zero, suc, ◌+◌, ◌-◌}
 use mathlib.Core.Path.{◌≡◌, refl, sym, ap, ap₂, ◌∙◌}
 use mathlib.Core.Bool.{Bool, true, false, cond}
 use mathlib.Core.List.{List, [], ◌∷◌, ◌++◌}
-use mathlib.Core.Option.{some}
 use native.Mathlib.Omega.{arith}
 use lib.Dec.{eqb}
 use lib.ListN.{replicate}
@@ -13,8 +14,6 @@ use Rattle.flash.specs.Flash.{Outcome as Filled}
 use Rattle.pages.specs.declared.PageOffset.{PageOffset}
 use Rattle.reads.specs.Reads.{read_number, read_part, filled}
 use Rattle.walks.specs.declared.Walk.{Walk}
-use Rattle.walks.specs.declared.Begun.{Begun}
-use Rattle.walks.specs.declared.Begun as G
 use Rattle.walks.specs.declared.Progress.{Progress}
 use Rattle.walks.specs.declared.Progress as P
 use Rattle.walks.specs.declared.Ran as R
@@ -36,8 +35,6 @@ use Rattle.walks.specs.Walks.{
 use Rattle.walks.proofs.Runs.{unmade_keeps, course}
 use Rattle.model.specs.Calls as C
 use Rattle.model.specs.Board.{Board, after_begin, answer_of, handed, after_step, turn, answers, board_after}
-use Rattle.boards.specs.declared.Hand.{Hand}
-use Rattle.boards.specs.declared.Hand.TheVariants.{Empty, Holding}
 use Rattle.boards.specs.declared.Call.{Call}
 use Rattle.boards.specs.declared.Call.TheVariants.{Save, Format, Step, Read, ReadInto, Cut}
 use Rattle.boards.specs.declared.Answer.{Answer}
@@ -46,7 +43,7 @@ use Rattle.boards.specs.declared.Turn.{Turn}
 use Rattle.boards.specs.Boards.{board_in, answer_in, answers_in, held_after, begun_turn, progress_answer, read_answer, turn_in, made_on, Steps}
 
 -- ---- beginnings
-pub save_made : (o : PageOffset) (hand : Hand) (begun : Begun) (held d l r out : List ℕ) (t : Turn)
+pub save_made : (o : PageOffset) (hand : Option Walk) (begun : Result Walk Refusal) (held d l r out : List ℕ) (t : Turn)
     → beginning_in begun ≡ begin_save l r o d → t ≡ begun_turn hand begun
     → turn_in (Save o) t held d l r out ≡ made_on (Save o) (board_in hand held l r) d out
 unfolding made_on answers board_after turn
@@ -58,14 +55,14 @@ save_made o hand begun held d l r out t e f =
     record { answers = z.answer ∷ []; board = z.board; out = out })
     e
   where
-    go : (x : Begun)
+    go : (x : Result Walk Refusal)
         → turn_in (Save o) (begun_turn hand x) held d l r out
         ≡ (let z = after_begin (board_in hand held l r) d (beginning_in x) in
         record { answers = z.answer ∷ []; board = z.board; out = out })
-    go (G.TheVariants.On w) = refl
-    go (G.TheVariants.Refused why) = refl
+    go (Ok w) = refl
+    go (Err why) = refl
 
-pub format_made : (hand : Hand) (begun : Begun) (held d l r out : List ℕ) (t : Turn)
+pub format_made : (hand : Option Walk) (begun : Result Walk Refusal) (held d l r out : List ℕ) (t : Turn)
     → beginning_in begun ≡ begin_format l r → t ≡ begun_turn hand begun
     → turn_in Format t held d l r out ≡ made_on Format (board_in hand held l r) d out
 unfolding made_on answers board_after turn
@@ -77,12 +74,12 @@ format_made hand begun held d l r out t e f =
     record { answers = z.answer ∷ []; board = z.board; out = out })
     e
   where
-    go : (x : Begun)
+    go : (x : Result Walk Refusal)
         → turn_in Format (begun_turn hand x) held d l r out
         ≡ (let z = after_begin (board_in hand held l r) [] (beginning_in x) in
         record { answers = z.answer ∷ []; board = z.board; out = out })
-    go (G.TheVariants.On w) = refl
-    go (G.TheVariants.Refused why) = refl
+    go (Ok w) = refl
+    go (Err why) = refl
 
 -- ---- steps
 -- a call that changes nothing is answered alike each time
@@ -106,12 +103,12 @@ run_board held c =
     record {
       left = c.left;
       right = c.right;
-      hand = some (record { walk = c.walk; held = held });
+      hand = Some (record { walk = c.walk; held = held });
     }
 
 abbrev Runs : ℕ → Walk → List ℕ → List ℕ → List ℕ → List ℕ → Type 0
 Runs n w held d l r =
-    let b = board_in (Holding w) held l r in
+    let b = board_in (Some w) held l r in
     let c = run_of n w l r (handed held d) in
     (answers b (replicate n (C.step d)) ≡ run_answers n c)
     × (board_after b (replicate n (C.step d)) ≡ run_board held c)
@@ -119,7 +116,7 @@ Runs n w held d l r =
 -- a step that isn't made
 unmade : (n : ℕ) (w : Walk) (held d l r : List ℕ) (o : Outcome) → o ≡ step_of w l r (handed held d)
     → (o.said ≡ W.made → ⊥)
-    → let b = board_in (Holding w) held l r in
+    → let b = board_in (Some w) held l r in
     (answers b (replicate n (C.step d)) ≡ replicate n (answer_of o.said))
     × (board_after b (replicate n (C.step d)) ≡ run_board held
     (record { said = o.said; steps = 0; walk = o.walk; left = o.left; right = o.right }))
@@ -128,7 +125,7 @@ unmade n w held d l r o e h =
     let x = handed held d in
     let keeps : step_of w l r x ≡ kept (step_of w l r x).said w l r =
     unmade_keeps w l r x (λ z. h (ap (λ (y : Outcome). y.said) e ∙ z)) in
-    let b = board_in (Holding w) held l r in
+    let b = board_in (Some w) held l r in
     let same = repeats n b (C.step d) (ap (λ (y : Outcome). (after_step held y).board) keeps) in
     let here : o ≡ kept (step_of w l r x).said w l r = e ∙ keeps in (
       same.0 ∙ ap (λ (y : Outcome). replicate n (answer_of y.said)) (sym e),
@@ -185,7 +182,7 @@ runs (suc n) w held d l r =
         let e = sym (first n w l r (handed held d) W.made q) in (
           ap
               (λ (x : Said).
-              answer_of x ∷ answers (board_in (Holding o.walk) held o.left o.right) (replicate n (C.step d)))
+              answer_of x ∷ answers (board_in (Some o.walk) held o.left o.right) (replicate n (C.step d)))
               q
               ∙ ap (λ (xs : List C.Answer). C.made ∷ xs) rest.0 ∙ more_answers n c ∙ ap (run_answers (suc n)) e,
           rest.1 ∙ ap (run_board held) e,
@@ -206,16 +203,16 @@ still_held P.TheVariants.Made own held = refl
 still_held P.TheVariants.Ended own held = refl
 still_held P.TheVariants.Unfit own held = refl
 
-pub steps_made : (n : ℕ) (hand : Hand) (w : Walk) (x : R.Ran) (held d own l r l' r' : List ℕ) (a : Answer)
-    → hand ≡ Holding w → own ≡ handed held d → course x l' r' ≡ run_of n w l r own → a ≡ progress_answer x.progress
-    → Steps n (record { hand = Holding x.walk; made = x.steps; answer = a }) hand held d l r l' r'
+pub steps_made : (n : ℕ) (hand : Option Walk) (w : Walk) (x : R.Ran) (held d own l r l' r' : List ℕ) (a : Answer)
+    → hand ≡ Some w → own ≡ handed held d → course x l' r' ≡ run_of n w l r own → a ≡ progress_answer x.progress
+    → Steps n (record { hand = Some x.walk; made = x.steps; answer = a }) hand held d l r l' r'
 unfolding made_on
 steps_made n hand w x held d own l r l' r' a eh eo ex ea out =
     let p = x.progress in
     let c : course x l' r' ≡ run_of n w l r (handed held d) = ex ∙ ap (run_of n w l r) eo in
     let z = runs n w held d l r in
     ap (λ (y : Answer). turn_in (Step n) (record {
-      hand = Holding
+      hand = Some
           x.walk;
       made = x.steps;
       answer = y;
@@ -224,18 +221,18 @@ steps_made n hand w x held d own l r l' r' a eh eo ex ea out =
     ∙ (λ i.
     record {
       answers = answers_in n x.steps (answer_same p l' r' out i);
-      board = board_in (Holding x.walk) (still_held p [] held i) l' r';
+      board = board_in (Some x.walk) (still_held p [] held i) l' r';
       out = out;
     })
     ∙ ap (λ (y : Course). record { answers = run_answers n y; board = run_board held y; out = out }) c
     ∙ (λ i. record { answers = sym z.0 i; board = sym z.1 i; out = out })
-    ∙ ap (λ (y : Hand). made_on (Step n) (board_in y held l r) d out) (sym eh)
+    ∙ ap (λ (y : Option Walk). made_on (Step n) (board_in y held l r) d out) (sym eh)
 
-pub no_walk : (n : ℕ) (hand : Hand) (t : Turn) (held d l r : List ℕ) → hand ≡ Empty
+pub no_walk : (n : ℕ) (hand : Option Walk) (t : Turn) (held d l r : List ℕ) → hand ≡ None
     → t ≡ (record { hand = hand; made = 0; answer = A.TheVariants.Nothing }) → Steps n t hand held d l r l r
 unfolding made_on turn
 no_walk n hand t held d l r eh et out =
-    let b = board_in Empty held l r in
+    let b = board_in None held l r in
     let z = repeats n b (C.step d) refl in
     let k : n - 0 ≡ n = omega arith in
     ap (λ (u : Turn). turn_in (Step n) u held d l r out) et
@@ -246,10 +243,10 @@ no_walk n hand t held d l r eh et out =
       out = out;
     })
     ∙ (λ i. record { answers = sym z.0 i; board = sym z.1 i; out = out })
-    ∙ ap (λ (y : Hand). made_on (Step n) (board_in y held l r) d out) (sym eh)
+    ∙ ap (λ (y : Option Walk). made_on (Step n) (board_in y held l r) d out) (sym eh)
 
 -- ---- reads
-pub read_made : (o : PageOffset) (n : ℕ) (hand : Hand) (held d l r out : List ℕ) (a : Answer)
+pub read_made : (o : PageOffset) (n : ℕ) (hand : Option Walk) (held d l r out : List ℕ) (a : Answer)
     → a ≡ read_answer (read_number l r o n) o n
     → turn_in (Read o n) (record { hand = hand; made = 0; answer = a }) held d l r out
     ≡ made_on (Read o n) (board_in hand held l r) d out
@@ -274,7 +271,7 @@ read_made o n hand held d l r out a e =
     go true = refl
     go false = refl
 
-pub into_made : (o : PageOffset) (k m : ℕ) (hand : Hand) (held d l r out out' : List ℕ) → m ≡ k
+pub into_made : (o : PageOffset) (k m : ℕ) (hand : Option Walk) (held d l r out out' : List ℕ) → m ≡ k
     → ◌≡◌ {A = Filled} (record { number = k; bytes = out' }) (filled l r o out)
     → turn_in (ReadInto o) (record { hand = hand; made = 0; answer = A.TheVariants.Output m }) held d l r out'
     ≡ made_on (ReadInto o) (board_in hand held l r) d out
@@ -287,12 +284,12 @@ into_made o k m hand held d l r out out' f e =
     e
 
 -- ---- a cut
-pub cut_made : (hand next : Hand) (held d l r out : List ℕ) → next ≡ Empty
+pub cut_made : (hand next : Option Walk) (held d l r out : List ℕ) → next ≡ None
     → turn_in Cut (record { hand = next; made = 0; answer = A.TheVariants.Nothing }) held d l r out
     ≡ made_on Cut (board_in hand held l r) d out
 unfolding made_on answers board_after turn
 cut_made hand next held d l r out e =
-    ap (λ (h : Hand). turn_in Cut (record { hand = h; made = 0; answer = A.TheVariants.Nothing }) held d l r out) e
+    ap (λ (h : Option Walk). turn_in Cut (record { hand = h; made = 0; answer = A.TheVariants.Nothing }) held d l r out) e
 
 -- ---- the call that is made
 pub of_call : (call c : Call) (t u : Turn) (b : Board) (held d l r out out' : List ℕ) → call ≡ c → t ≡ u

@@ -3,20 +3,18 @@
 -- In order: the hand; the calls; the answers; what a call gives.
 -- Not here: the board, its calls and answers (the crate model). Laws: proofs/Laws.antt. Assumes
 -- nothing.
+use Rattle.std.specs.Prelude.{Option, Some, None, Result, Ok, Err}
+use Rattle.walks.specs.declared.Walk.{Walk}
+use Rattle.requests.specs.declared.Refusal.{Refusal}
 use Rattle.std.specs.Prelude.{ℕ, ◌-◌, ◌≡◌, cond, List, [], ◌∷◌, ◌++◌, eqb, replicate}
-use Rattle.std.proofs.Math.Option.{Option, none, some}
 use Rattle.pages.specs.declared.PageOffset.{PageOffset}
 use Rattle.reads.specs.Reads.{read_part, filled}
 use Rattle.requests.specs.Numbers.{number_of}
-use Rattle.walks.specs.declared.Begun.{Begun}
-use Rattle.walks.specs.declared.Begun as G
 use Rattle.walks.specs.declared.Progress.{Progress}
 use Rattle.walks.specs.declared.Progress as P
 use Rattle.model.specs.Calls as C
 use Rattle.model.specs.Board as B
 use Rattle.model.specs.Board.{Board, answers, board_after}
-use Rattle.boards.specs.declared.Hand.{Hand}
-use Rattle.boards.specs.declared.Hand as H
 use Rattle.boards.specs.declared.Call.{Call}
 use Rattle.boards.specs.declared.Call as L
 use Rattle.boards.specs.declared.Answer.{Answer}
@@ -25,11 +23,11 @@ use Rattle.boards.specs.declared.Turn.{Turn}
 
 -- ---- the hand
 -- the walk in hand and the data it was begun with
-abbrev pub hand_in : Hand → List ℕ → Option B.Hand
-hand_in H.TheVariants.Empty held = none
-hand_in (H.TheVariants.Holding w) held = some (record { walk = w; held = held })
+abbrev pub hand_in : Option Walk → List ℕ → Option B.Hand
+hand_in None held = None
+hand_in (Some w) held = Some (record { walk = w; held = held })
 
-abbrev pub board_in : Hand → List ℕ → List ℕ → List ℕ → Board
+abbrev pub board_in : Option Walk → List ℕ → List ℕ → List ℕ → Board
 board_in hand held l r = record { left = l; right = r; hand = hand_in hand held }
 
 -- ---- the calls
@@ -85,10 +83,10 @@ held_after (A.TheVariants.Part o n) own held = held
 held_after (A.TheVariants.Output n) own held = held
 
 -- the turn after a beginning, and the answer after a step and of a read by its number
-abbrev pub begun_turn : Hand → Begun → Turn
-begun_turn hand (G.TheVariants.On w) =
-    record { hand = H.TheVariants.Holding w; made = 0; answer = A.TheVariants.Begun }
-begun_turn hand (G.TheVariants.Refused why) =
+abbrev pub begun_turn : Option Walk → Result Walk Refusal → Turn
+begun_turn hand (Ok w) =
+    record { hand = Some w; made = 0; answer = A.TheVariants.Begun }
+begun_turn hand (Err why) =
     record { hand = hand; made = 0; answer = A.TheVariants.Number (number_of why) }
 
 abbrev pub progress_answer : Progress → Answer
@@ -135,7 +133,7 @@ made_on call b d out =
     }
 
 -- so many steps: whatever the output is, as they keep it
-abbrev pub Steps : ℕ → Turn → Hand → List ℕ → List ℕ → List ℕ → List ℕ → List ℕ → List ℕ → Type 0
+abbrev pub Steps : ℕ → Turn → Option Walk → List ℕ → List ℕ → List ℕ → List ℕ → List ℕ → List ℕ → Type 0
 Steps n t hand held d l r l' r' =
     (out : List ℕ)
     → turn_in (L.TheVariants.Step n) t held d l' r' out

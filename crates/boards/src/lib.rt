@@ -8,7 +8,6 @@
 ghost use Rattle.std.specs.Prelude.{◌≡◌};
 ghost use Rattle.reads.specs.Reads.{read_number};
 ghost use Rattle.model.specs.Board.{handed};
-ghost use Rattle.boards.specs.declared.Hand.TheVariants.{Empty};
 ghost use Rattle.boards.specs.Boards.{
   board_in,
   begun_turn,
@@ -22,21 +21,15 @@ ghost use Rattle.boards.specs.Boards.{
 
 use pages::{PageOffset, State};
 use plans::Request;
-use walks::{Begun, Progress, Walk};
+use requests::Refusal;
+use walks::{Progress, Walk};
 
 // The number of a step that doesn't fit.
 const UNFIT: u8 = 6;
 
-// The walk in hand.
-#[derive(Clone, Copy)]
-pub enum Hand {
-    Empty,
-    Holding(Walk),
-}
-
 // A call: a save at a page offset with the data lent, a format, so many steps with the data lent, a
 // read with page offset and length, a read into the output lent, or a cut.
-#[derive(Clone, Copy)]
+#[derive(Clone, Copy, Debug, PartialEq, Eq)]
 pub enum Call {
     Save(PageOffset),
     Format,
@@ -49,7 +42,7 @@ pub enum Call {
 // An answer: none, a walk begun, a step made, the walk ended, document 01's number, a part of the
 // live page by its page offset and length, or that the output holds the bytes, with the number of
 // that read.
-#[derive(Clone, Copy)]
+#[derive(Clone, Copy, Debug, PartialEq, Eq)]
 pub enum Answer {
     Nothing,
     Begun,
@@ -64,7 +57,7 @@ pub enum Answer {
 // those.
 #[derive(Clone, Copy)]
 pub struct Turn {
-    pub hand: Hand,
+    pub hand: Option<Walk>,
     pub made: u32,
     pub answer: Answer,
 }
@@ -72,17 +65,17 @@ pub struct Turn {
 // ---- the hand
 // The hand without its walk. Compiled code may look at a walk's fields before it has looked whether
 // one is held; so an empty hand is made from another, whose fields stay as they were written.
-fn emptied(hand: Hand) -> Hand
-    ensures { result ≡ Empty }
+fn emptied(hand: Option<Walk>) -> Option<Walk>
+    ensures { result ≡ None }
 {
     let mut next = hand;
-    next = Hand::Empty;
+    next = None;
     next
 }
 
 // No walk in hand, with every field set.
-pub fn empty_hand() -> Hand
-    ensures { result ≡ Empty }
+pub fn empty_hand() -> Option<Walk>
+    ensures { result ≡ None }
 {
     let unheld = Walk {
         request: Request::Save,
@@ -93,25 +86,21 @@ pub fn empty_hand() -> Hand
         len: 0,
         place: 0,
     };
-    emptied(Hand::Holding(unheld))
+    emptied(Some(unheld))
 }
 
 // ---- beginnings
 // A walk that is begun replaces any former one.
-fn begin(hand: Hand, begun: Begun) -> Turn
+fn begin(hand: Option<Walk>, begun: Result<Walk, Refusal>) -> Turn
     ensures { result ≡ begun_turn hand begun }
 {
     match begun {
-        Begun::On(walk) => Turn {
-            hand: Hand::Holding(walk),
+        Ok(walk) => Turn {
+            hand: Some(walk),
             made: 0,
             answer: Answer::Begun,
         },
-        Begun::Refused(why) => Turn {
-            hand: hand,
-            made: 0,
-            answer: Answer::Number(why.number()),
-        },
+        Err(why) => answered(hand, Answer::Number(why.number())),
     }
 }
 
@@ -130,15 +119,16 @@ fn progress_answer(progress: Progress) -> Answer
 fn handed<'a>(held: &'a [u8], given: &'a [u8]) -> &'a [u8]
     ensures { result.now ≡ handed held.now given.now }
 {
-    if given.len() != held.len() {
-        return given;
+    if given.len() == held.len() {
+        held
+    } else {
+        given
     }
-    held
 }
 
 // So many steps of the walk in hand.
 fn step<'a>(
-    hand: Hand,
+    hand: Option<Walk>,
     times: u32,
     held: &'a [u8],
     data: &'a [u8],
@@ -154,15 +144,13 @@ fn step<'a>(
         right.new }
 {
     match hand {
-        Hand::Empty => answered(hand, Answer::Nothing),
-        Hand::Holding(walk) => {
+        None => answered(hand, Answer::Nothing),
+        Some(walk) => {
             let ran = walk.run(times, left, right, handed(held, data));
-            let next = ran.walk;
-            let progress = ran.progress;
             Turn {
-                hand: Hand::Holding(next),
+                hand: Some(ran.walk),
                 made: ran.steps,
-                answer: progress_answer(progress),
+                answer: progress_answer(ran.progress),
             }
         }
     }
@@ -173,22 +161,21 @@ fn read(left: &[u8], right: &[u8], offset: PageOffset, len: u32) -> Answer
     ensures { result
         ≡ read_answer (read_number left.now right.now offset len) offset len }
 {
-    let number = reads::check_read(left, right, offset, len).number();
-    if number == 0 {
-        return Answer::Part(offset, len);
+    match reads::check_read(left, right, offset, len) {
+        Ok(()) => Answer::Part(offset, len),
+        Err(error) => Answer::Number(error.number()),
     }
-    Answer::Number(number)
 }
 
 // ---- a call
 // A call that leaves the walk in hand where it is.
-fn answered(hand: Hand, answer: Answer) -> Turn
+fn answered(hand: Option<Walk>, answer: Answer) -> Turn
     ensures { result ≡ (record { hand = hand; made = 0; answer = answer }) }
 {
     Turn {
-        hand: hand,
+        hand,
         made: 0,
-        answer: answer,
+        answer,
     }
 }
 
@@ -196,7 +183,7 @@ fn answered(hand: Hand, answer: Answer) -> Turn
 // that of a save or of the steps; the output is filled by a read into it, and kept by any other call.
 pub fn make<'a>(
     call: Call,
-    hand: Hand,
+    hand: Option<Walk>,
     held: &'a [u8],
     data: &'a [u8],
     left: &mut [u8],
@@ -222,7 +209,7 @@ pub fn make<'a>(
         Call::Read(offset, len) => answered(hand, read(left, right, offset, len)),
         Call::ReadInto(offset) => {
             let reading = reads::read_into(left, right, offset, out);
-            answered(hand, Answer::Output(reading.number()))
+            answered(hand, Answer::Output(reads::number_of(reading)))
         }
         Call::Cut => answered(emptied(hand), Answer::Nothing),
     }

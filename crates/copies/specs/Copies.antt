@@ -1,5 +1,5 @@
 -- A copy of bytes.
--- Not here: what is read by copying (the crate reads). Laws: proofs/Laws.antt. Assumes nothing.
+-- Not here: what is read by copying (the crate reads). Assumes nothing.
 use Rattle.std.specs.Prelude.{ℕ, min, List, ◌++◌, length, take, drop}
 
 -- as many bytes of the one as both have, then what the other held

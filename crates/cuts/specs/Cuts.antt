@@ -2,9 +2,8 @@
 -- `--cuts` in docs/FORMATS.md).
 -- In order: the last walk; a cut; the tally of all cuts.
 -- Not here: what a read shows and its verdict (the crate verdicts). Laws: proofs/. Assumes nothing.
-use Rattle.std.specs.Prelude.{ℕ, zero, suc, ◌+◌, Bool, true, false, cond, ◌&&◌, List, [], ◌∷◌, eqb}
-use Rattle.std.proofs.Math.Option.{Option, none, some}
-use Rattle.copies.specs.Copies.{copied}
+use Rattle.std.specs.Prelude.{Option}
+use Rattle.std.specs.Prelude.{ℕ, zero, suc, ◌+◌, Bool, true, false, cond, ◌&&◌, List, [], ◌∷◌, eqb, Some, None}
 use Rattle.plans.specs.Counts.{step_count}
 use Rattle.walks.specs.declared.Walk.{Walk}
 use Rattle.walks.specs.Walks.{run_of}
@@ -12,8 +11,6 @@ use Rattle.model.specs.Calls.{Call}
 use Rattle.model.specs.Board as B
 use Rattle.model.specs.Board.{Board, Turn, powered, turn}
 use Rattle.model.specs.Decided.{is_begun}
-use Rattle.boards.specs.declared.Hand.{Hand}
-use Rattle.boards.specs.declared.Hand as H
 use Rattle.boards.specs.declared.Answer.{Answer}
 use Rattle.boards.specs.declared.Answer as A
 use Rattle.boards.specs.Boards.{board_in}
@@ -27,29 +24,26 @@ use Rattle.cuts.specs.declared.Last.{Last}
 -- ---- the last walk
 -- whether a walk is in hand
 abbrev pub is_held : Option B.Hand → Bool
-is_held none = false
-is_held (some h) = true
+is_held None = false
+is_held (Some h) = true
 
 -- the board after a call that begins a walk
 abbrev pub begun_by : Turn → Option Board
-begun_by t = cond (is_begun t.answer && is_held t.board.hand) (some t.board) none
+begun_by t = cond (is_begun t.answer && is_held t.board.hand) (Some t.board) None
 
 abbrev pub or_else : Option Board → Option Board → Option Board
-or_else none y = y
-or_else (some b) y = some b
+or_else None y = y
+or_else (Some b) y = Some b
 
 -- "the last of its saves and formats that was begun", with the pages as they were there
 unfoldable pub last_walk : Board → List Call → Option Board
-last_walk b [] = none
+last_walk b [] = None
 last_walk b (c ∷ cs) = or_else (last_walk (turn b c).board cs) (begun_by (turn b c))
 
 -- as the code has it: its data is that of a line, its pages are kept
-abbrev pub last_in : List ℕ → Last → List ℕ → List ℕ → Option Board
-last_in text x l r = from x.hand
-  where
-    from : Hand → Option Board
-    from H.TheVariants.Empty = none
-    from (H.TheVariants.Holding w) = some (board_in (H.TheVariants.Holding w) (data_at text x.at) l r)
+abbrev pub last_in : List ℕ → Option Last → List ℕ → List ℕ → Option Board
+last_in text None l r = None
+last_in text (Some x) l r = Some (board_in (Some x.walk) (data_at text x.at) l r)
 
 -- whether an answer of the code begins a walk
 abbrev pub begun_in : Answer → Bool
@@ -61,19 +55,14 @@ begun_in (A.TheVariants.Number n) = false
 begun_in (A.TheVariants.Part o n) = false
 begun_in (A.TheVariants.Output n) = false
 
-abbrev pub holds_in : Hand → Bool
-holds_in H.TheVariants.Empty = false
-holds_in (H.TheVariants.Holding w) = true
+-- the walk in hand, and the line that began it
+abbrev pub last_of : Option Walk → ℕ → Option Last
+last_of None at = None
+last_of (Some w) at = Some (record { walk = w; at = at })
 
-abbrev pub begins_walk : Answered → Bool
-begins_walk x = eqb x.times 1 && (begun_in x.answer && holds_in x.session.hand)
-
--- what is kept after a call, if it begins a walk: the walk, and each page that it is begun on
-abbrev pub kept_last : Answered → Last → Last
-kept_last x last = cond (begins_walk x) (record { hand = x.session.hand; at = x.session.began }) last
-
-abbrev pub kept_page : Answered → List ℕ → List ℕ → List ℕ
-kept_page x page kept = cond (begins_walk x) (copied page kept) kept
+-- the walk that a call begins
+abbrev pub begun_last : Answered → Option Last
+begun_last x = cond (eqb x.times 1 && begun_in x.answer) (last_of x.session.hand x.session.began) None
 
 -- ---- a cut
 -- what a read shows after so many steps of a walk, beside what it showed before them
@@ -93,12 +82,20 @@ total_of w = step_count w.request w.start w.erased w.page
 
 -- "cut after each number of steps from none to all, each time from the same pages"
 abbrev pub walk_tally : Option B.Hand → List ℕ → List ℕ → Tally
-walk_tally none l r = no_cuts
-walk_tally (some h) l r = tallied (total_of h.walk + 1) h.walk h.held l r
+walk_tally None l r = no_cuts
+walk_tally (Some h) l r = tallied (total_of h.walk + 1) h.walk h.held l r
 
 abbrev pub board_tally : Option Board → Tally
-board_tally none = no_cuts
-board_tally (some b) = walk_tally b.hand b.left b.right
+board_tally None = no_cuts
+board_tally (Some b) = walk_tally b.hand b.left b.right
 
 abbrev pub script_tally : List ℕ → List ℕ → List ℕ → Tally
 script_tally text l r = board_tally (last_walk (powered l r) (script_calls text l r))
+
+-- whether a script begins a walk
+abbrev pub has_board : Option Board → Bool
+has_board None = false
+has_board (Some b) = true
+
+abbrev pub is_begun_in : List ℕ → List ℕ → List ℕ → Bool
+is_begun_in text l r = has_board (last_walk (powered l r) (script_calls text l r))

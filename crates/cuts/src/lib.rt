@@ -1,108 +1,65 @@
 // The last save or format of a script that is begun, cut after each number of its steps, all on copies
 // of the pages. The lines are in docs/FORMATS.md; what is counted is in specs/Cuts.antt.
+//
+// What is printed goes to an `Output`, which never fails, so its results are passed over where a
+// function hands back what it counted.
 #![tactic(auto)]
 
-ghost use Rattle.std.specs.Prelude.{◌≤◌, ◌≡◌, length, take, ◌+◌};
+ghost use Rattle.std.specs.Prelude.{◌≤◌, ◌≡◌, length, ◌+◌, is_some, unwrap_or};
 ghost use Rattle.model.specs.Board.{powered};
 ghost use Rattle.sessions.specs.Sessions.{script_calls};
-ghost use Rattle.turns.specs.Turns.{data_at};
-ghost use Rattle.verdicts.specs.Verdicts.{verdict_in};
+ghost use Rattle.verdicts.specs.Verdicts.{verdict_in, no_cuts};
 ghost use Rattle.cuts.specs.Cuts.{
-  begun_in,
-  holds_in,
-  begins_walk,
-  kept_last,
-  kept_page,
+  begun_last,
   last_in,
   last_walk,
   cut_shown,
   tallied,
   total_of,
+  is_begun_in,
   script_tally,
 };
 
-use arguments::Name;
-use boards::{Answer, Hand};
+use boards::Answer;
 use listings::Listing;
 use loads::Source;
 use plans::Request;
 use prints::Output;
 use sessions::{Answered, Session};
+use std::fmt;
+use std::fmt::Write;
 use verdicts::{Tally, Verdict};
+use views::{Counts, CutTally, Event, Line, Shown};
 use walks::Walk;
 
-// The last walk that is begun, if there is one, and where its line is.
+// The last walk that is begun, and where the line is that began it.
 #[derive(Clone, Copy)]
 struct Last {
-    hand: Hand,
+    walk: Walk,
     at: usize,
 }
 
+// A walk, its data, and the pages that it is begun on.
+#[derive(Clone, Copy)]
+struct Start<'a> {
+    walk: Walk,
+    data: &'a [u8],
+    left: &'a [u8],
+    right: &'a [u8],
+    ghost fits: { (length left.now ≤ 4096) × (length right.now ≤ 4096) },
+}
+
 // ---- the last walk
-fn is_begun(answer: Answer) -> bool
-    ensures { result ≡ begun_in answer }
+// The walk that a call began, if it began one.
+fn begun(answered: Answered) -> Option<Last>
+    ensures { result ≡ begun_last answered }
 {
-    match answer {
-        Answer::Nothing => false,
-        Answer::Begun => true,
-        Answer::Made => false,
-        Answer::Ended => false,
-        Answer::Number(_) => false,
-        Answer::Part(_, _) => false,
-        Answer::Output(_) => false,
-    }
-}
-
-fn is_holding(hand: Hand) -> bool
-    ensures { result ≡ holds_in hand }
-{
-    match hand {
-        Hand::Empty => false,
-        Hand::Holding(_) => true,
-    }
-}
-
-// Whether a call began a walk.
-fn begins_walk(answered: Answered) -> bool
-    ensures { result ≡ begins_walk answered }
-{
-    if answered.times != 1 {
-        return false;
-    }
-    let answer = answered.answer;
-    if !is_begun(answer) {
-        return false;
-    }
-    let session = answered.session;
-    let hand = session.hand;
-    is_holding(hand)
-}
-
-// After a call that begins a walk, keeps it and the pages that it is begun on.
-fn keep(
-    answered: Answered,
-    last: Last,
-    now_left: &[u8],
-    now_right: &[u8],
-    kept_left: &mut [u8],
-    kept_right: &mut [u8],
-) -> Last
-    ensures { (result ≡ kept_last answered last)
-        × (kept_left.new
-        ≡ kept_page answered now_left.now kept_left.old)
-        × (kept_right.new
-        ≡ kept_page answered now_right.now kept_right.old) }
-{
-    if !begins_walk(answered) {
-        return last;
-    }
-    copies::copy(now_left, kept_left);
-    copies::copy(now_right, kept_right);
-    let session = answered.session;
-    let hand = session.hand;
-    Last {
-        hand: hand,
-        at: session.began,
+    match (answered.times, answered.answer, answered.session.hand) {
+        (1, Answer::Begun, Some(walk)) => Some(Last {
+            walk,
+            at: answered.session.began,
+        }),
+        _ => None,
     }
 }
 
@@ -114,219 +71,154 @@ fn find_last(
     right: &[u8],
     kept_left: &mut [u8],
     kept_right: &mut [u8],
-) -> Last
+) -> Option<Last>
     requires { (length left.now ≤ 4096)
         × (length right.now ≡ length left.now)
-        × (length kept_left.old ≡ 4096)
-        × (length kept_right.old ≡ 4096) }
-    ensures { last_in text.now result
-        (take (length left.now) kept_left.new)
-        (take (length left.now) kept_right.new)
+        × (length kept_left.old ≡ length left.now)
+        × (length kept_right.old ≡ length left.now) }
+    ensures { last_in text.now result kept_left.new kept_right.new
         ≡ last_walk
         (powered left.now right.now)
         (script_calls text.now left.now right.now) }
 {
     let page = left.len();
+    let mut left_room = turns::blank();
+    let mut right_room = turns::blank();
+    let now_left = &mut left_room[..page];
+    let now_right = &mut right_room[..page];
+    copies::copy(left, now_left);
+    copies::copy(right, now_right);
     let mut session = Session::new();
-    let mut last = Last {
-        hand: Hand::Empty,
-        at: 0,
-    };
-    let mut now_left = turns::blank();
-    let mut now_right = turns::blank();
-    copies::copy(left, &mut now_left);
-    copies::copy(right, &mut now_right);
+    let mut last = None;
     let mut listing = Listing::new();
-    let mut on = session.is_on(text);
-    while on {
-        listing = listings::count(rt, listing, session.left);
-        let mut out = turns::blank();
-        let answered = sessions::next(
-            text,
-            session,
-            &mut now_left[0..page],
-            &mut now_right[0..page],
-            &mut out,
-        );
-        last = keep(answered, last, &now_left, &now_right, kept_left, kept_right);
-        let next = answered.session;
-        session = next;
-        on = session.is_on(text);
+    while session.is_on(text) {
+        if session.left == 0 {
+            listing.count(rt);
+        }
+        let mut output = turns::blank();
+        let answered = sessions::next(text, session, now_left, now_right, &mut output);
+        session = answered.session;
+        if let Some(found) = begun(answered) {
+            last = Some(found);
+            copies::copy(now_left, kept_left);
+            copies::copy(now_right, kept_right);
+        }
     }
     last
 }
 
-// ---- what is printed
-fn print_cut(
-    out: &mut Output,
-    count: u32,
-    walk: Walk,
-    left: &[u8],
-    right: &[u8],
-    verdict: Verdict,
-) {
-    let request = walk.request;
-    prints::filled(
-        out,
-        b"  cut after # of # steps: ",
-        &[count as u64, walk.total() as u64],
-    );
-    views::line(out, left, right);
-    prints::text(out, b"; a read ");
-    views::print_verdict(out, verdict, views::event_of(request));
-}
-
-// Where the line is that began the last walk of a script: a save has its data there, and no format is
-// refused where a walk can be begun.
-fn line_of(text: &[u8], at: usize, walk: Walk) -> usize {
-    let request = walk.request;
-    match request {
-        Request::Save => at,
-        Request::Format => listings::last_format(text),
-    }
-}
-
-// Prints the walk that is cut, after the end of the line of P.
-fn print_walk(out: &mut Output, text: &[u8], at: usize, walk: Walk) {
-    let state = walk.start;
-    prints::text(out, b"\n");
-    listings::print_line_at(out, text, line_of(text, at, walk));
-    prints::filled(out, b"  begun at line #: ", &[state.line() as u64]);
-    views::counts(out, walk);
-}
-
 // ---- the cuts
-// Makes a number of a walk's steps on copies of the pages, after which the walk is lost, and prints
-// what a read shows.
-fn cut_after<'a>(
-    out: &mut Output,
-    count: u32,
-    walk: Walk,
-    data: &[u8],
-    left: &'a [u8],
-    right: &'a [u8],
-) -> Verdict
-    requires { (length left.now ≤ 4096) × (length right.now ≤ 4096) }
-    ensures { verdict_in result
-        ≡ cut_shown count walk «data».now left.now right.now }
-{
-    let page = left.len();
-    let other = right.len();
-    let mut now_left = turns::blank();
-    let mut now_right = turns::blank();
-    copies::copy(left, &mut now_left);
-    copies::copy(right, &mut now_right);
-    walk.run(
-        count,
-        &mut now_left[0..page],
-        &mut now_right[0..other],
-        data,
-    );
-    let request = walk.request;
-    let offset = walk.offset;
-    let verdict = verdicts::judge(
-        request,
-        verdicts::image(&now_left[0..page], &now_right[0..other]),
-        verdicts::image(left, right),
-        offset,
-        data,
-    );
-    print_cut(
-        out,
-        count,
-        walk,
-        &now_left[0..page],
-        &now_right[0..other],
-        verdict,
-    );
-    verdict
-}
-
-// Cuts a walk after each number of its steps.
-fn cut_each<'a>(out: &mut Output, walk: Walk, data: &[u8], left: &'a [u8], right: &'a [u8]) -> Tally
-    requires { (length left.now ≤ 4096) × (length right.now ≤ 4096) }
-    ensures { result
-        ≡ tallied (total_of walk + 1) walk
-        «data».now
-        left.now
-        right.now }
-{
-    let mut tally = Tally::new();
-    for count in 0..=walk.total() {
-        tally = tally.with(cut_after(out, count, walk, data, left, right));
+impl Start<'_> {
+    // Prints the walk that is cut, of the line at a place, after where two pages come from and P. A save has
+    // its data at that line, and no format is refused where a walk can be begun.
+    fn print(&self, out: &mut Output, source: Source, text: &[u8], at: usize) -> fmt::Result {
+        let page = self.left.len();
+        writeln!(out, "{source}\nP = {page}")?;
+        let line = match self.walk.request {
+            Request::Save => listings::line_at(text, at),
+            Request::Format => listings::last_format(text),
+        };
+        if let Some(line) = line {
+            writeln!(out, "{line}")?;
+        }
+        let number = self.walk.start.line();
+        writeln!(out, "  begun at line {number}: {}", Counts(self.walk))
     }
-    tally
+
+    // Prints a cut after so many steps, and what a read of the pages then shows.
+    fn print_cut(
+        &self,
+        out: &mut Output,
+        count: u32,
+        left: &[u8],
+        right: &[u8],
+        verdict: Verdict,
+    ) -> fmt::Result {
+        let total = self.walk.total();
+        let event = Event::from(self.walk.request);
+        let line = Line { left, right };
+        let shown = Shown { verdict, event };
+        writeln!(
+            out,
+            "  cut after {count} of {total} steps: {line}; a read {shown}"
+        )
+    }
+
+    // Makes a number of the walk's steps on copies of the pages, after which the walk is lost, and prints
+    // what a read shows.
+    fn cut_after(&self, out: &mut Output, count: u32) -> Verdict
+        ensures { verdict_in result
+            ≡ cut_shown count self.now.walk self.now.«data».now
+            self.now.left.now
+            self.now.right.now }
+    {
+        let mut left_room = turns::blank();
+        let mut right_room = turns::blank();
+        let left = &mut left_room[..self.left.len()];
+        let right = &mut right_room[..self.right.len()];
+        copies::copy(self.left, left);
+        copies::copy(self.right, right);
+        self.walk.run(count, left, right, self.data);
+        let verdict = verdicts::judge(
+            self.walk.request,
+            verdicts::image(left, right),
+            verdicts::image(self.left, self.right),
+            self.walk.offset,
+            self.data,
+        );
+        let _ = self.print_cut(out, count, left, right, verdict);
+        verdict
+    }
+
+    // Cuts the walk after each number of its steps.
+    fn cut_each(&self, out: &mut Output) -> Tally
+        ensures { result
+            ≡ tallied (total_of self.now.walk + 1) self.now.walk
+            self.now.«data».now
+            self.now.left.now
+            self.now.right.now }
+    {
+        let mut tally = Tally::new();
+        for count in 0..=self.walk.total() {
+            tally = tally.with(self.cut_after(out, count));
+        }
+        tally
+    }
 }
 
-// Cuts a walk of the line at a place, begun on these pages.
-fn cut_walk<'a>(
-    out: &mut Output,
-    text: &[u8],
-    at: usize,
-    walk: Walk,
-    left: &'a [u8],
-    right: &'a [u8],
-) -> Tally
-    requires { (length left.now ≤ 4096) × (length right.now ≤ 4096) }
-    ensures { result
-        ≡ tallied (total_of walk + 1) walk
-        (data_at text.now at)
-        left.now
-        right.now }
-{
-    let mut data = turns::blank();
-    let size = turns::load(text, at, &mut data);
-    print_walk(out, text, at, walk);
-    let tally = cut_each(out, walk, &data[0..size], left, right);
-    views::print_tally(out, walk.total() as u64 + 1, tally);
-    tally
-}
-
-// Makes a script, and prints the last save or format in it that is begun and its cuts, or that there
-// is none. Pages that differ in length, or are longer than any page, have no calls.
-pub fn run<'a>(
+// Makes a script, and prints the last save or format in it that is begun and its cuts, or nothing where
+// there is none. Pages that differ in length, or are longer than any page, have no calls.
+pub fn run(
     out: &mut Output,
     source: Source,
-    script: Name,
     text: &[u8],
-    left: &'a [u8],
-    right: &'a [u8],
-) -> Tally
-    ensures { result ≡ script_tally text.now left.now right.now }
+    left: &[u8],
+    right: &[u8],
+) -> Option<Tally>
+    ensures tally { unwrap_or result no_cuts
+        ≡ script_tally text.now left.now right.now }
+    ensures found { is_some result ≡ is_begun_in text.now left.now right.now }
 {
     let page = left.len();
-    if pages::MAX_PAGE < page {
-        return Tally::new();
+    if pages::MAX_PAGE < page || right.len() != page {
+        return None;
     }
-    if right.len() != page {
-        return Tally::new();
-    }
-    let mut kept_left = turns::blank();
-    let mut kept_right = turns::blank();
-    let last = find_last(
-        out.runtime(),
-        text,
-        left,
-        right,
-        &mut kept_left,
-        &mut kept_right,
-    );
-    let hand = last.hand;
-    match hand {
-        Hand::Empty => {
-            arguments::fail(out, script, b": no save or format in it is begun\n");
-            Tally::new()
-        }
-        Hand::Holding(walk) => {
-            loads::heading(out, source, page);
-            cut_walk(
-                out,
-                text,
-                last.at,
-                walk,
-                &kept_left[0..page],
-                &kept_right[0..page],
-            )
-        }
-    }
+    let mut left_room = turns::blank();
+    let mut right_room = turns::blank();
+    let kept_left = &mut left_room[..page];
+    let kept_right = &mut right_room[..page];
+    let last = find_last(out.runtime(), text, left, right, kept_left, kept_right)?;
+    let mut data_room = turns::blank();
+    let size = turns::load(text, last.at, &mut data_room);
+    let start = Start {
+        walk: last.walk,
+        data: &data_room[..size],
+        left: kept_left,
+        right: kept_right,
+    };
+    let _ = start.print(out, source, text, last.at);
+    let tally = start.cut_each(out);
+    let cuts = last.walk.total() as u64 + 1;
+    let _ = writeln!(out, "{}", CutTally { cuts, tally });
+    Some(tally)
 }

@@ -1,63 +1,19 @@
 -- Laws of words as numbers and as bytes.
--- In order: what is left of a list; digits; numbers; hexadecimal digits; bytes.
+-- In order: numbers; hexadecimal digits; bytes.
 -- Assumes nothing.
-use Prim.Native.Nat.{ℕ, zero, suc, ◌+◌, ◌-◌, ◌*◌, ◌/◌, ◌<◌, ◌≤◌}
-use mathlib.Core.Path.{◌≡◌, refl, sym, ap, ◌∙◌}
-use mathlib.Core.Bool.{Bool, true, false, cond, ◌&&◌, and-false}
-use mathlib.Core.List.{List, [], ◌∷◌, ◌++◌}
-use native.Mathlib.Numerals.{add-one}
-use native.Mathlib.Omega.{arith}
-use lib.Dec.{ltb, leb}
-use lib.ListN.{length, get_or, take, drop, set, drop_of_length-le}
-use lib.Seq.{drop-cons, take-length, take-suc, set_at, append_snoc, length-take-le}
-use borrow.Author.Tests.{lt-ltb, le-ltb, le-leb, lt-leb, ltb-false}
-use Rattle.digits.specs.declared.Number.{Number}
-use Rattle.digits.specs.declared.Number.TheVariants as N
+use Rattle.std.proofs.Common.{◌≡◌, ℕ, ◌+◌, ◌*◌, ◌/◌, ◌<◌, ◌≤◌, Bool, true, false, cond, ◌&&◌, List, [], ◌∷◌, ◌++◌, ltb, leb, length, get_or, take, drop, set, refl, sym, ap, ◌∙◌, arith, append_assoc}
+use borrow.Author.Tests.{lt-ltb, le-ltb, ltb-true, le-leb, lt-leb, ltb-false}
+use Rattle.std.specs.Prelude.{Option, Some, None, unwrap_or, is_some, IfSome, MatchOption, ok_or, Result, Ok, Err}
+use Rattle.std.specs.Bool.{then_some}
+use Rattle.std.specs.List.{list_all}
+use Rattle.std.proofs.lemmas.List.{drop_more, drop_all, take_more, take_all, set_at, length-drop, length-take-le}
+use Rattle.std.proofs.lemmas.Bool.Decides.{nat_tests}
+use Rattle.digits.specs.declared.Fault.{Fault}
 use Rattle.digits.specs.declared.Fault.TheVariants.{NoNumber, NotNumber, PastBits}
-use Rattle.digits.specs.Digits.{
-  within,
-  digit_of,
-  number_from,
-  number_of,
-  all_hex,
-  joined_of,
-  bytes_of,
-  Decoded,
-  decoded,
-}
+use Rattle.digits.specs.Digits.{digit_of, number_from, number_of, all_hex, joined_of, bytes_of, Decoded, decoded}
 
--- what is left of a list at a place
-pub at_place : (s : List ℕ) (i : ℕ) → i < length s → drop i s ≡ get_or s i 0 ∷ drop (i + 1) s
-at_place s i h = drop-cons s i 0 h ∙ ap (λ (n : ℕ). get_or s i 0 ∷ drop n s) (sym (add-one i))
-
--- ---- digits and numbers
-within_yes : (low high b : ℕ) → low ≤ b → b ≤ high → within low high b ≡ true
-within_yes low high b h k = simp (le-leb low b h, le-leb b high k)
-
-pub within_low : (low high b : ℕ) → b < low → within low high b ≡ false
-within_low low high b h = simp (lt-leb low b h)
-
-pub within_high : (low high b : ℕ) → high < b → within low high b ≡ false
-within_high low high b h = ap (λ (t : Bool). leb low b && t) (lt-leb b high h) ∙ and-false (leb low b)
-
-pub digit_decimal : (b : ℕ) → 48 ≤ b → b ≤ 57 → b - 48 ≡ digit_of b
-unfolding digit_of
-digit_decimal b h k = simp (within_yes 48 57 b h k)
-
-pub digit_capital : (b : ℕ) → 65 ≤ b → b ≤ 70 → b - 65 + 10 ≡ digit_of b
-unfolding digit_of
-digit_capital b h k = simp (within_high 48 57 b (omega arith), within_yes 65 70 b h k)
-
-pub digit_small : (b : ℕ) → 97 ≤ b → b ≤ 102 → b - 97 + 10 ≡ digit_of b
-unfolding digit_of
-digit_small b h k =
-    simp (within_high 48 57 b (omega arith), within_high 65 70 b (omega arith), within_yes 97 102 b h k)
-
-pub digit_none : (b : ℕ) → within 48 57 b ≡ false → within 65 70 b ≡ false → within 97 102 b ≡ false → 16 ≡ digit_of b
-unfolding digit_of
-digit_none b h k j = simp (h, k, j)
-
-pub number_none : (s : List ℕ) → length s ≡ 0 → N.Wrong NoNumber ≡ number_of s
+-- ---- numbers
+pub number_none : (s : List ℕ) → length s ≡ 0 → Err NoNumber ≡ number_of s
 unfolding number_of
 number_none [] h = refl
 number_none (x ∷ xs) h = absurd (omega arith)
@@ -68,25 +24,17 @@ number_some [] h = absurd (h refl)
 number_some (x ∷ xs) h = refl
 
 number_cons : (value x : ℕ) (xs : List ℕ) (t : Bool) → ltb 9 (digit_of x) ≡ t
-    → number_from value (x ∷ xs) ≡ cond t (N.Wrong NotNumber) (number_from (value * 10 + digit_of x) xs)
+    → number_from value (x ∷ xs) ≡ cond t (Err NotNumber) (number_from (value * 10 + digit_of x) xs)
 unfolding number_from
 number_cons value x xs t e =
-    ap (λ (u : Bool). cond u (N.Wrong NotNumber) (number_from (value * 10 + digit_of x) xs)) e
-
-pub number_bad : (s : List ℕ) (i value next : ℕ) (n : Number) → i < length s → next ≡ digit_of (get_or s i 0) → 9 < next
-    → number_from value (drop i s) ≡ n → N.Wrong NotNumber ≡ n
-number_bad s i value next n h e k f =
-    sym
-    (ap (number_from value) (at_place s i h)
-    ∙ number_cons value (get_or s i 0) (drop (i + 1) s) true (lt-ltb 9 (digit_of (get_or s i 0)) (omega arith)))
-    ∙ f
+    ap (λ (u : Bool). cond u (Err NotNumber) (number_from (value * 10 + digit_of x) xs)) e
 
 -- past 32 bits the number is no matter
 past : (a b : ℕ) (s : List ℕ) → 4294967296 ≤ a → 4294967296 ≤ b → number_from a s ≡ number_from b s
 unfolding number_from
 past a b [] h k = simp (le-ltb a 4294967296 h, le-ltb b 4294967296 k)
 past a b (x ∷ xs) h k =
-    ap (cond (ltb 9 (digit_of x)) (N.Wrong NotNumber))
+    ap (cond (ltb 9 (digit_of x)) (Err NotNumber))
     (past (a * 10 + digit_of x) (b * 10 + digit_of x) xs (omega arith) (omega arith))
 
 kept : (a : ℕ) (s : List ℕ) → number_from (cond (ltb a 4294967296) a 4294967296) s ≡ number_from a s
@@ -96,61 +44,108 @@ kept a s = go (ltb a 4294967296) refl
     go true e = refl
     go false e = past 4294967296 a s (omega arith) (ltb-false a 4294967296 e)
 
-pub number_on : (s : List ℕ) (i value next more : ℕ) (n : Number) → i < length s → next ≡ digit_of (get_or s i 0)
-    → next ≤ 9 → more ≡ cond (ltb (value * 10 + next) 4294967296) (value * 10 + next) 4294967296
-    → number_from value (drop i s) ≡ n → number_from more (drop (i + 1) s) ≡ n
-number_on s i value next more n h e k m f =
-    ap (λ (v : ℕ). number_from v (drop (i + 1) s)) m
-    ∙ kept (value * 10 + next) (drop (i + 1) s)
-    ∙ ap (λ (d : ℕ). number_from (value * 10 + d) (drop (i + 1) s)) e
+-- what is read so far and what is left make the number, where a number past 32 bits is none
+abbrev pub number_on_from : Option ℕ → List ℕ → Result ℕ Fault
+number_on_from so_far s = number_from (unwrap_or so_far 4294967296) s
+
+-- a byte as a decimal digit
+abbrev pub decimal_of : ℕ → Option ℕ
+decimal_of b = cond (ltb 9 (digit_of b)) None (Some (digit_of b))
+
+decimal_digit : (d : ℕ) → then_some (leb d 9) d ≡ cond (ltb 9 d) None (Some d)
+decimal_digit d = grind (arith, nat_tests)
+
+pub decimal_is : (b : ℕ) (o r : Option ℕ) → unwrap_or o 16 ≡ digit_of b
+    → MatchOption o (r ≡ None) (λ d. (t : Bool) × (t ≡ leb d 9) × (r ≡ then_some t d)) → r ≡ decimal_of b
+decimal_is b None r e h = h ∙ ap (λ (d : ℕ). cond (ltb 9 d) None (Some d)) e
+decimal_is b (Some d) r e (t, h, k) =
+    k ∙ ap (λ (u : Bool). then_some u d) h ∙ decimal_digit d ∙ ap (λ (n : ℕ). cond (ltb 9 n) None (Some n)) e
+
+decimal_none : (d : ℕ) → ◌≡◌ {A = Option ℕ} (cond (ltb 9 d) None (Some d)) None → 9 < d
+decimal_none d h = grind (arith, nat_tests)
+
+decimal_some : (d n : ℕ) → ◌≡◌ {A = Option ℕ} (cond (ltb 9 d) None (Some d)) (Some n) → (n ≡ d) × (d ≤ 9)
+decimal_some d n h = go (ltb 9 d) refl h
+  where
+    go : (t : Bool) → ltb 9 d ≡ t → ◌≡◌ {A = Option ℕ} (cond t None (Some d)) (Some n) → (n ≡ d) × (d ≤ 9)
+    go true e k = absurd (cc)
+    go false e k = (cc, ltb-false 9 d e)
+
+pub number_bad : (s : List ℕ) (i : ℕ) (so_far : Option ℕ) (n : Result ℕ Fault) → i < length s
+    → decimal_of (get_or s i 0) ≡ None → number_on_from so_far (drop i s) ≡ n → Err NotNumber ≡ n
+number_bad s i so_far n h k f =
+    sym
+    (ap (number_on_from so_far) (drop_more s i 0 h)
+    ∙ number_cons (unwrap_or so_far 4294967296) (get_or s i 0) (drop (i + 1) s) true
+    (lt-ltb 9 (digit_of (get_or s i 0)) (decimal_none (digit_of (get_or s i 0)) k)))
+    ∙ f
+
+-- a digit more of a number, which is none from where it is past 32 bits on
+abbrev pub grown : Option ℕ → ℕ → Option ℕ
+grown None d = None
+grown (Some v) d = cond (ltb (v * 10 + d) 4294967296) (Some (v * 10 + d)) None
+
+pub grown_is : (so_far more : Option ℕ) (d : ℕ)
+    → MatchOption so_far (more ≡ None) (λ v. more ≡ cond (ltb (v * 10 + d) 4294967296) (Some (v * 10 + d)) None)
+    → more ≡ grown so_far d
+grown_is None more d h = h
+grown_is (Some v) more d h = h
+
+pub grown_within : (so_far : Option ℕ) (d : ℕ) → IfSome (grown so_far d) (λ v. v < 4294967296)
+grown_within None d = tt
+grown_within (Some v) d = go (ltb (v * 10 + d) 4294967296) refl
+  where
+    go : (t : Bool) → ltb (v * 10 + d) 4294967296 ≡ t
+        → IfSome (cond t (Some (v * 10 + d)) None) (λ n. n < 4294967296)
+    go true e = ltb-true (v * 10 + d) 4294967296 e
+    go false e = tt
+
+grown_on : (so_far : Option ℕ) (d : ℕ) (s : List ℕ)
+    → number_on_from (grown so_far d) s ≡ number_from (unwrap_or so_far 4294967296 * 10 + d) s
+grown_on None d s = past 4294967296 (4294967296 * 10 + d) s (omega arith) (omega arith)
+grown_on (Some v) d s =
+    (λ i. number_from (unwrapped (ltb (v * 10 + d) 4294967296) i) s) ∙ kept (v * 10 + d) s
+  where
+    unwrapped : (t : Bool)
+        → unwrap_or (cond t (Some (v * 10 + d)) None) 4294967296 ≡ cond t (v * 10 + d) 4294967296
+    unwrapped true = refl
+    unwrapped false = refl
+
+pub number_on : (s : List ℕ) (i d : ℕ) (so_far : Option ℕ) (n : Result ℕ Fault) → i < length s
+    → decimal_of (get_or s i 0) ≡ Some d → number_on_from so_far (drop i s) ≡ n
+    → number_on_from (grown so_far d) (drop (i + 1) s) ≡ n
+number_on s i d so_far n h k f =
+    let value : ℕ = unwrap_or so_far 4294967296 in
+    let (e, small) = decimal_some (digit_of (get_or s i 0)) d k in
+    grown_on so_far d (drop (i + 1) s)
+    ∙ ap (λ (c : ℕ). number_from (value * 10 + c) (drop (i + 1) s)) e
     ∙ sym
-    (ap (number_from value) (at_place s i h)
-    ∙ number_cons value (get_or s i 0) (drop (i + 1) s) false (le-ltb 9 (digit_of (get_or s i 0)) (omega arith)))
+    (ap (number_from value) (drop_more s i 0 h)
+    ∙ number_cons value (get_or s i 0) (drop (i + 1) s) false (le-ltb 9 (digit_of (get_or s i 0)) small))
     ∙ f
 
-pub number_value : (s : List ℕ) (i value : ℕ) (n : Number) → length s ≤ i → value < 4294967296
-    → number_from value (drop i s) ≡ n → N.Value value ≡ n
+pub number_end : (s : List ℕ) (i : ℕ) (so_far : Option ℕ) (n : Result ℕ Fault) → length s ≤ i
+    → IfSome so_far (λ v. v < 4294967296) → number_on_from so_far (drop i s) ≡ n → ok_or so_far PastBits ≡ n
 unfolding number_from
-number_value s i value n h k f =
+number_end s i None n h k f = sym (ap (number_from 4294967296) (drop_all i s h)) ∙ f
+number_end s i (Some v) n h k f =
     sym
-    (ap (number_from value) (drop_of_length-le s h)
-    ∙ ap (λ (t : Bool). cond t (N.Value value) (N.Wrong PastBits)) (lt-ltb value 4294967296 k))
+    (ap (number_from v) (drop_all i s h)
+    ∙ ap (λ (t : Bool). cond t (Ok v) (Err PastBits)) (lt-ltb v 4294967296 k))
     ∙ f
-
-pub number_past : (s : List ℕ) (i value : ℕ) (n : Number) → length s ≤ i → 4294967296 ≤ value
-    → number_from value (drop i s) ≡ n → N.Wrong PastBits ≡ n
-unfolding number_from
-number_past s i value n h k f =
-    sym
-    (ap (number_from value) (drop_of_length-le s h)
-    ∙ ap (λ (t : Bool). cond t (N.Value value) (N.Wrong PastBits)) (le-ltb value 4294967296 k))
-    ∙ f
-
-pub bits_yes : (n : ℕ) → n < 4294967296 → n ≡ cond (ltb n 4294967296) n 4294967296
-bits_yes n h = sym (ap (λ (t : Bool). cond t n 4294967296) (lt-ltb n 4294967296 h))
-
-pub bits_no : (n : ℕ) → 4294967296 ≤ n → 4294967296 ≡ cond (ltb n 4294967296) n 4294967296
-bits_no n h = sym (ap (λ (t : Bool). cond t n 4294967296) (le-ltb n 4294967296 h))
 
 -- ---- hexadecimal digits
-hex_cons : (s : List ℕ) (i d : ℕ) (t : Bool) → i < length s → d ≡ digit_of (get_or s i 0) → ltb d 16 ≡ t
-    → all_hex (drop i s) ≡ (t && all_hex (drop (i + 1) s))
+abbrev pub is_digit : ℕ → Bool
+is_digit b = ltb (digit_of b) 16
+
+pub all_is : (s : List ℕ) → list_all is_digit s ≡ all_hex s
 unfolding all_hex
-hex_cons s i d t h e k =
-    ap all_hex (at_place s i h)
-    ∙ ap (λ (u : Bool). u && all_hex (drop (i + 1) s)) (ap (λ (n : ℕ). ltb n 16) (sym e) ∙ k)
+all_is [] = refl
+all_is (x ∷ xs) = ap (λ (t : Bool). is_digit x && t) (all_is xs)
 
-pub hex_bad : (s : List ℕ) (i d : ℕ) (r : Bool) → i < length s → d ≡ digit_of (get_or s i 0) → 15 < d
-    → all_hex (drop i s) ≡ r → false ≡ r
-hex_bad s i d r h e k f = sym (hex_cons s i d false h e (le-ltb d 16 (omega arith))) ∙ f
-
-pub hex_on : (s : List ℕ) (i d : ℕ) (r : Bool) → i < length s → d ≡ digit_of (get_or s i 0) → d ≤ 15
-    → all_hex (drop i s) ≡ r → all_hex (drop (i + 1) s) ≡ r
-hex_on s i d r h e k f = sym (hex_cons s i d true h e (lt-ltb d 16 (omega arith))) ∙ f
-
-pub hex_all : (s : List ℕ) (i : ℕ) (r : Bool) → length s ≤ i → all_hex (drop i s) ≡ r → true ≡ r
-unfolding all_hex
-hex_all s i r h f = sym (ap all_hex (drop_of_length-le s h)) ∙ f
+pub digit_is : (b : ℕ) (o : Option ℕ) → unwrap_or o 16 ≡ digit_of b → IfSome o (λ d. d < 16) → is_some o ≡ is_digit b
+digit_is b None e h = ap (λ (d : ℕ). ltb d 16) e
+digit_is b (Some d) e h = sym (lt-ltb d 16 h) ∙ ap (λ (d : ℕ). ltb d 16) e
 
 -- ---- bytes
 pub bytes_length : (s : List ℕ) → length (bytes_of s) ≡ length s / 2
@@ -159,43 +154,67 @@ bytes_length [] = omega arith
 bytes_length (high ∷ []) = omega arith
 bytes_length (high ∷ (low ∷ s)) = omega (arith, bytes_length s)
 
-bytes_at : (s : List ℕ) (i : ℕ) → i < length (bytes_of s)
-    → joined_of (digit_of (get_or s (i * 2) 0)) (digit_of (get_or s (i * 2 + 1) 0)) ≡ get_or (bytes_of s) i 0
+bytes_cons : (s pair rest : List ℕ) → s ≡ pair ++ rest → length pair ≡ 2
+    → bytes_of s ≡ joined_of (digit_of (get_or pair 0 0)) (digit_of (get_or pair 1 0)) ∷ bytes_of rest
 unfolding bytes_of
-bytes_at [] i h = absurd (omega arith)
-bytes_at (high ∷ []) i h = absurd (omega arith)
-bytes_at (high ∷ (low ∷ s)) zero h = refl
-bytes_at (high ∷ (low ∷ s)) (suc i) h =
-    let t : List ℕ = high ∷ (low ∷ s) in
-    let a : suc i * 2 ≡ suc (suc (i * 2)) = omega arith in
-    let b : suc i * 2 + 1 ≡ suc (suc (i * 2 + 1)) = omega arith in
-    (λ j. joined_of (digit_of (get_or t (a j) 0)) (digit_of (get_or t (b j) 0))) ∙ bytes_at s i (omega arith)
+bytes_cons s [] rest e h = absurd (omega arith)
+bytes_cons s (high ∷ []) rest e h = absurd (omega arith)
+bytes_cons s (high ∷ (low ∷ [])) rest e h = ap bytes_of e
+bytes_cons s (high ∷ (low ∷ (x ∷ xs))) rest e h = absurd (omega arith)
+
+-- what is put so far stands at the start of the buffer, and what is left of the digits makes the other bytes
+pub record PutSoFar (digits left before buffer : List ℕ) (i : ℕ) : Type 0 where
+  fits : i ≤ length digits / 2
+  rest : drop i (bytes_of digits) ≡ bytes_of left
+  put : buffer ≡ take i (bytes_of digits) ++ drop i before
+
+pub put_first : (s left d : List ℕ) (i : ℕ) → left ≡ s → i ≡ 0 → PutSoFar s left d d i
+put_first s left d i e h =
+    rw h (record { fits = omega arith; rest = ap bytes_of (sym e); put = refl })
 
 -- a byte more is put
-pub put_on : (s d current : List ℕ) (i count x y v : ℕ) → i < count → count ≡ length s / 2 → count ≤ length d
-    → x ≡ digit_of (get_or s (i * 2) 0) → y ≡ digit_of (get_or s (i * 2 + 1) 0) → v ≡ joined_of x y
-    → current ≡ take i (bytes_of s) ++ drop i d → set current i v ≡ take (i + 1) (bytes_of s) ++ drop (i + 1) d
-put_on s d current i count x y v h n k ex ey ev e =
+pub put_on : (s d current left rest pair : List ℕ) (i v : ℕ) → length s / 2 ≤ length d → left ≡ pair ++ rest
+    → length pair ≡ 2 → v ≡ joined_of (digit_of (get_or pair 0 0)) (digit_of (get_or pair 1 0))
+    → PutSoFar s left d current i → PutSoFar s rest d (set current i v) (i + 1)
+put_on s d current left rest pair i v k el h ev so_far =
     let b : List ℕ = bytes_of s in
     let m : length (bytes_of s) ≡ length s / 2 = bytes_length s in
-    let f : v ≡ get_or (bytes_of s) i 0 = ev ∙ (λ j. joined_of (ex j) (ey j)) ∙ bytes_at s i (omega arith) in
-    (λ j. set (e j) i (f j))
-    ∙ ap (λ (t : List ℕ). set (take i b ++ t) i (get_or b i 0)) (at_place d i (omega arith))
-    ∙ set_at (take i b) (get_or d i 0) (drop (i + 1) d) (get_or b i 0) i (length-take-le i b (omega arith))
-    ∙ sym (append_snoc (take i b) (get_or b i 0) (drop (i + 1) d))
-    ∙ ap (λ (t : List ℕ). t ++ drop (i + 1) d)
-    (sym (take-suc b i 0 (omega arith)) ∙ ap (λ (n : ℕ). take n b) (sym (add-one i)))
+    let e : drop i (bytes_of s) ≡ v ∷ bytes_of rest =
+    so_far.rest ∙ bytes_cons left pair rest el h ∙ ap (λ (n : ℕ). n ∷ bytes_of rest) (sym ev) in
+    let n : i < length (bytes_of s) =
+    omega (arith, length-drop i (bytes_of s), ap length (so_far.rest ∙ bytes_cons left pair rest el h)) in
+    let f : get_or b i 0 ∷ drop (i + 1) b ≡ v ∷ bytes_of rest = sym (drop_more b i 0 n) ∙ e in
+    let at : i < length d = omega arith in
+    record {
+      fits = omega arith;
+      rest = ap (drop 1) f;
+      put =
+          ap (λ (t : List ℕ). set t i v) so_far.put
+          ∙ ap (λ (t : List ℕ). set (take i b ++ t) i v) (drop_more d i 0 at)
+          ∙ set_at (take i b) (get_or d i 0) (drop (i + 1) d) v i (length-take-le i b (omega arith))
+          ∙ sym (append_assoc (take i b) (v ∷ []) (drop (i + 1) d))
+          ∙ ap (λ (t : List ℕ). t ++ drop (i + 1) d)
+          (ap (λ (n : ℕ). take i b ++ n ∷ []) (sym (ap (λ (t : List ℕ). get_or t 0 0) f)) ∙ sym (take_more b i 0 n));
+    }
 
-pub put_all : (s d current : List ℕ) (i count : ℕ) → i ≤ count → count ≤ i → count ≡ length s / 2 → count ≤ length d
-    → current ≡ take i (bytes_of s) ++ drop i d → ◌≡◌ {A = Decoded} (record { count = count; buffer = current })
+none_left : (s : List ℕ) → length s < 2 → bytes_of s ≡ []
+unfolding bytes_of
+none_left [] h = refl
+none_left (high ∷ []) h = refl
+none_left (high ∷ (low ∷ s)) h = absurd (omega arith)
+
+pub put_all : (s d current left : List ℕ) (i count : ℕ) → count ≡ length s / 2 → count ≤ length d → length left < 2
+    → PutSoFar s left d current i → ◌≡◌ {A = Decoded} (record { count = count; buffer = current })
     (decoded s d)
 unfolding decoded
-put_all s d current i count h g n k e =
+put_all s d current left i count n k h so_far =
     let b : List ℕ = bytes_of s in
     let m : count ≡ length (bytes_of s) = n ∙ sym (bytes_length s) in
-    let at : i ≡ length (bytes_of s) = omega arith in
+    let at : i ≡ length (bytes_of s) =
+    omega (arith, length-drop i (bytes_of s), ap length (so_far.rest ∙ none_left left h)) in
     let f : current ≡ bytes_of s ++ drop (length (bytes_of s)) d =
-    e ∙ ap (λ (n : ℕ). take n b ++ drop n d) at ∙ ap (λ (t : List ℕ). t ++ drop (length b) d) (take-length b) in
+    so_far.put ∙ ap (λ (n : ℕ). take n b ++ drop n d) at
+    ∙ ap (λ (t : List ℕ). t ++ drop (length b) d) (take_all (length b) b (omega arith)) in
     (λ j. record { count = m j; buffer = f j })
     ∙ sym
     (ap (λ (t : Bool). cond t

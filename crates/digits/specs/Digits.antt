@@ -1,9 +1,8 @@
 -- Words as numbers and as bytes (docs/FORMATS.md, "replay"): words and buffers are lists of bytes.
 -- In order: digits; numbers; hexadecimal digits and bytes. Laws: proofs/Laws.antt. Assumes nothing.
-use Rattle.std.specs.Prelude.{ℕ, ◌+◌, ◌-◌, ◌*◌, ◌%◌, Bool, true, cond, ◌&&◌, List, [], ◌∷◌, ◌++◌, ltb, leb, length, drop}
+use Rattle.std.specs.Prelude.{ℕ, ◌+◌, ◌-◌, ◌*◌, ◌%◌, Bool, true, cond, ◌&&◌, List, [], ◌∷◌, ◌++◌, ltb, leb, length, drop, Result, Ok, Err}
+use Rattle.digits.specs.declared.Fault.{Fault}
 use Rattle.digits.specs.declared.Fault.TheVariants.{NoNumber, NotNumber, PastBits}
-use Rattle.digits.specs.declared.Number.{Number}
-use Rattle.digits.specs.declared.Number as N
 
 abbrev pub within : ℕ → ℕ → ℕ → Bool
 within low high b = leb low b && leb b high
@@ -17,16 +16,16 @@ digit_of b =
     16))
 
 -- a decimal number of which so much is read: "at most 4294967295"
-unfoldable pub number_from : ℕ → List ℕ → Number
+unfoldable pub number_from : ℕ → List ℕ → Result ℕ Fault
 number_from value [] =
-    cond (ltb value 4294967296) (N.TheVariants.Value value) (N.TheVariants.Wrong PastBits)
+    cond (ltb value 4294967296) (Ok value) (Err PastBits)
 number_from value (x ∷ xs) =
     cond (ltb 9 (digit_of x))
-    (N.TheVariants.Wrong NotNumber)
+    (Err NotNumber)
     (number_from (value * 10 + digit_of x) xs)
 
-unfoldable pub number_of : List ℕ → Number
-number_of [] = N.TheVariants.Wrong NoNumber
+unfoldable pub number_of : List ℕ → Result ℕ Fault
+number_of [] = Err NoNumber
 number_of (x ∷ xs) = number_from 0 (x ∷ xs)
 
 unfoldable pub all_hex : List ℕ → Bool

@@ -2,7 +2,20 @@
 // The layout is in docs/FORMATS.md, its definitions in specs/Digits.antt.
 #![tactic(auto)]
 
-ghost use Rattle.std.specs.Prelude.{◌+◌, ◌*◌, ◌≤◌, cond, ◌≡◌, ltb, length};
+ghost use Rattle.std.specs.Prelude.{
+  ◌+◌,
+  ◌*◌,
+  ◌<◌,
+  ◌≤◌,
+  cond,
+  ◌≡◌,
+  ltb,
+  length,
+  Some,
+  None,
+  unwrap_or,
+  IfSome,
+};
 ghost use Rattle.digits.specs.Digits.{
   digit_of,
   number_of,
@@ -12,11 +25,8 @@ ghost use Rattle.digits.specs.Digits.{
   decoded,
 };
 
-// The least number past 32 bits.
-const PAST_BITS: u64 = 4294967296;
-
 // What is wrong in a line.
-#[derive(Clone, Copy)]
+#[derive(Clone, Copy, Debug, PartialEq, Eq)]
 pub enum Fault {
     UnknownWord,
     NoNumber,
@@ -28,74 +38,57 @@ pub enum Fault {
     ExtraWord,
 }
 
-// The number of a hexadecimal digit, capital or small; 16 of any other byte.
-pub fn digit(byte: u8) -> u8
-    ensures value { result ≡ digit_of byte }
-    ensures upper_bound { result ≤ 16 }
+// The number of a hexadecimal digit, capital or small.
+#[tactic(auto, using(std::proofs::lemmas::Bool::Decides::nat_tests), unfolding(crate::specs::Digits::digit_of))]
+pub fn digit(byte: u8) -> Option<u8>
+    ensures value { unwrap_or result 16 ≡ digit_of byte }
+    ensures upper_bound { IfSome result (λ digit. digit < 16) }
 {
     match byte {
-        b'0'..=b'9' => byte - b'0',
-        b'A'..=b'F' => byte - b'A' + 10,
-        b'a'..=b'f' => byte - b'a' + 10,
-        _ => 16,
+        b'0'..=b'9' => Some(byte - b'0'),
+        b'A'..=b'F' => Some(byte - b'A' + 10),
+        b'a'..=b'f' => Some(byte - b'a' + 10),
+        _ => None,
     }
 }
 
-// A decimal number as it is found, or what is wrong with it.
-#[derive(Clone, Copy)]
-pub enum Number {
-    Value(u32),
-    Wrong(Fault),
-}
-
-// A number with one more decimal digit, as far as it is within 32 bits.
-fn appended(value: u64, digit: u8) -> u64
-    requires { value ≤ 4294967296 }
-    ensures value { result ≡ cond (ltb (value * 10 + digit) 4294967296) (value * 10 + digit) 4294967296 }
-    ensures upper_bound { result ≤ 4294967296 }
+// A number with one more decimal digit, if it is within 32 bits.
+fn appended(value: u32, digit: u8) -> Option<u32>
+    ensures { result ≡ cond (ltb (value * 10 + digit) 4294967296) (Some (value * 10 + digit)) None }
 {
-    let next = value * 10 + digit as u64;
-    if next < PAST_BITS { next } else { PAST_BITS }
+    value.checked_mul(10)?.checked_add(u32::from(digit))
 }
 
-// The decimal number that a word is.
-pub fn parse_number(word: &[u8]) -> Number
+// The decimal number that a word is. One that is past 32 bits is read on all the same: a byte that is
+// no digit is the fault to be told.
+pub fn parse_number(word: &[u8]) -> Result<u32, Fault>
     ensures { result ≡ number_of word.now }
 {
-    if word.len() == 0 {
-        return Number::Wrong(Fault::NoNumber);
+    if word.is_empty() {
+        return Err(Fault::NoNumber);
     }
-    let mut value: u64 = 0;
-    for i in 0..word.len() {
-        let next = digit(word[i]);
-        if 9 < next {
-            return Number::Wrong(Fault::NotNumber);
-        }
-        value = appended(value, next);
+    let mut number = Some(0);
+    for byte in word {
+        let next = digit(*byte)
+            .filter(|digit| *digit <= 9)
+            .ok_or(Fault::NotNumber)?;
+        number = number.and_then(|value| appended(value, next));
     }
-    if value < PAST_BITS {
-        return Number::Value(value as u32);
-    }
-    Number::Wrong(Fault::PastBits)
+    number.ok_or(Fault::PastBits)
 }
 
 // Whether a word has no bytes but hexadecimal digits.
 pub fn is_hex(word: &[u8]) -> bool
     ensures { result ≡ all_hex word.now }
 {
-    for i in 0..word.len() {
-        if 15 < digit(word[i]) {
-            return false;
-        }
-    }
-    true
+    word.iter().all(|byte| digit(*byte).is_some())
 }
 
-// A byte of two hexadecimal digits.
+// The byte of two hexadecimal digits. What is no digit counts as 0.
 fn joined(high: u8, low: u8) -> u8
-    ensures { result ≡ joined_of high low }
+    ensures { result ≡ joined_of (digit_of high) (digit_of low) }
 {
-    high % 16 * 16 + low % 16
+    digit(high).unwrap_or(0) * 16 + digit(low).unwrap_or(0)
 }
 
 // Puts the bytes of hexadecimal digits, two a byte, at the start of a buffer, as far as they fit,
@@ -110,10 +103,8 @@ pub fn decode(digits: &[u8], into: &mut [u8]) -> usize
     if into.len() < count {
         return 0;
     }
-    for i in 0..count {
-        let high = i * 2;
-        let low = high + 1;
-        into[i] = joined(digit(digits[high]), digit(digits[low]));
+    for (i, pair) in digits.chunks_exact(2).enumerate() {
+        into[i] = joined(pair[0], pair[1]);
     }
     count
 }

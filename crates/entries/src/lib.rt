@@ -6,12 +6,9 @@
 #![tactic(auto)]
 
 ghost use Rattle.std.specs.Prelude.{◌<◌, false, ◌≡◌, length, get_or};
-ghost use Rattle.pages.specs.declared.Live.TheVariants.{Nowhere, On};
-ghost use Rattle.pages.specs.Pages.{on_side};
 ghost use Rattle.plans.specs.declared.Request.TheVariants.{Save};
 ghost use Rattle.plans.specs.Plans.{
   mark,
-  other,
   ready,
   erases_both,
   target,
@@ -21,10 +18,10 @@ ghost use Rattle.plans.specs.Plans.{
   nothing,
 };
 ghost use Rattle.plans.specs.Counts.{step_count};
-ghost use Rattle.plans.specs.Spots.{Stands, cell_in, Programs, save_spot, spot_of, spot_cell};
+ghost use Rattle.plans.specs.Spots.{Stands, Programs, save_spot, cell_of};
 
-use pages::{ImageOffset, Live, PageOffset, Side, State};
-use plans::{Entry, InCells, Request, Spot};
+use pages::{ImageOffset, PageOffset, Side, State};
+use plans::{Entry, ImageCell, Plan, Request, Spot};
 use steps::Step;
 
 // ---- the entries of the list
@@ -41,6 +38,7 @@ fn erase_entry(place: u32) -> Entry
 }
 
 // The first step before the image cells of a save that begins at a line, with nothing erased.
+#[tactic(auto, unfolding(pages::specs::Pages::live_of))]
 fn first_step(state: State) -> Step
     ensures { result ≡ (get_or (ready state false) 0 nothing).step }
 {
@@ -59,6 +57,7 @@ fn first_step(state: State) -> Step
 }
 
 // The line after it, where another step follows before the image cells.
+#[tactic(auto, unfolding(pages::specs::Pages::live_of))]
 fn next_state(state: State) -> State
     ensures { result ≡ (get_or (ready state false) 1 nothing).state }
 {
@@ -80,10 +79,9 @@ fn next_state(state: State) -> State
 fn first_entry(state: State) -> Entry
     ensures { result ≡ get_or (ready state false) 0 nothing }
 {
-    let step = first_step(state);
     Entry {
-        state: state,
-        step: step,
+        state,
+        step: first_step(state),
         commits: false,
     }
 }
@@ -93,18 +91,12 @@ fn ready_entry(start: State, place: u32) -> Entry
     requires { place < length (ready start false) }
     ensures { result ≡ get_or (ready start false) place nothing }
 {
-    if place == 0 {
-        return first_entry(start);
+    match place {
+        0 => first_entry(start),
+        _ if start == State::S0 => erase_entry(place - 1),
+        1 => first_entry(next_state(start)),
+        _ => first_entry(next_state(next_state(start))),
     }
-    if start.line() == 0 {
-        return erase_entry(place - 1);
-    }
-    let next = next_state(start);
-    if place == 1 {
-        return first_entry(next);
-    }
-    let last = next_state(next);
-    first_entry(last)
 }
 
 // A step of a format that isn't empty.
@@ -112,174 +104,116 @@ fn format_entry(start: State, place: u32) -> Entry
     ensures { result ≡ get_or (formatting start false) place nothing }
 {
     if place == 0 {
-        return Entry {
-            state: start,
-            step: Step::Mark(Side::Right, PageOffset(2), 0x0000),
-            commits: true,
-        };
-    }
-    erase_entry(place - 1)
-}
-
-// Of two states, one for each side, the one of a side.
-fn by_side(side: Side, left: State, right: State) -> State
-    ensures { result ≡ on_side side left right }
-{
-    match side {
-        Side::Left => left,
-        Side::Right => right,
-    }
-}
-
-fn other_side(side: Side) -> Side
-    ensures { result ≡ other side }
-{
-    match side {
-        Side::Left => Side::Right,
-        Side::Right => Side::Left,
+        marking(start, Side::Right, 2, 0x0000, true)
+    } else {
+        erase_entry(place - 1)
     }
 }
 
 // The line while image cells are programmed, and the side whose page they are programmed on.
-fn clean_state(live: Live) -> State
+fn clean_state(live: Option<Side>) -> State
     ensures { result ≡ clean live }
 {
     match live {
-        Live::Nowhere => State::S0,
-        Live::On(side) => by_side(side, State::S1, State::S8),
+        None => State::S0,
+        Some(side) => side.pick(State::S1, State::S8),
     }
 }
 
-fn target_side(live: Live) -> Side
+fn target_side(live: Option<Side>) -> Side
     ensures { result ≡ target live }
 {
     match live {
-        Live::Nowhere => Side::Left,
-        Live::On(side) => other_side(side),
+        None => Side::Left,
+        Some(side) => side.other(),
     }
 }
 
+// The entry of a management cell that is programmed to a number.
 fn marking(state: State, side: Side, cell: u32, value: u16, commits: bool) -> Entry
     ensures { result ≡ (record { state = state; step = mark side cell value; commits = commits }) }
 {
-    let at = PageOffset(cell);
     Entry {
-        state: state,
-        step: Step::Mark(side, at, value),
-        commits: commits,
+        state,
+        step: Step::Mark(side, PageOffset(cell), value),
+        commits,
     }
 }
 
-// A mark after the image cells where the page of a side was live: the deciding store, Dead on that
-// page, Active on the new one.
-fn next_mark(side: Side, place: u32) -> Entry
-    requires { place < 3 }
-    ensures { result ≡ get_or (marks (On side)) place nothing }
-{
-    let new = other_side(side);
-    if place == 0 {
-        let state = by_side(side, State::S1, State::S8);
-        return marking(state, new, 0, 0xFF00, true);
-    }
-    if place == 1 {
-        let state = by_side(side, State::S5, State::S9);
-        return marking(state, side, 2, 0xFF00, false);
-    }
-    let state = by_side(side, State::S6, State::S10);
-    marking(state, new, 0, 0x0000, false)
-}
-
-// A mark after the image cells where no page was live: the deciding store on LEFT, then RIGHT Dead
-// and out of use.
-fn first_mark(place: u32) -> Entry
-    requires { place < 3 }
-    ensures { result ≡ get_or (marks Nowhere) place nothing }
-{
-    if place == 0 {
-        return marking(State::S0, Side::Left, 0, 0x0000, true);
-    }
-    if place == 1 {
-        return marking(State::S1, Side::Right, 2, 0xFF00, false);
-    }
-    marking(State::S2, Side::Right, 0, 0x0000, false)
-}
-
-fn mark_entry(live: Live, place: u32) -> Entry
+// A mark after the image cells. Where no page was live: the deciding store on LEFT, then RIGHT Dead
+// and out of use. Where the page of a side was: the deciding store, Dead on that page, Active on the
+// new one.
+fn mark_entry(live: Option<Side>, place: u32) -> Entry
     requires { place < 3 }
     ensures { result ≡ get_or (marks live) place nothing }
 {
-    match live {
-        Live::Nowhere => first_mark(place),
-        Live::On(side) => next_mark(side, place),
-    }
+    let (state, side, cell, value) = match (live, place) {
+        (None, 0) => (State::S0, Side::Left, 0, 0x0000),
+        (None, 1) => (State::S1, Side::Right, 2, 0xFF00),
+        (None, _) => (State::S2, Side::Right, 0, 0x0000),
+        (Some(side), 0) => (side.pick(State::S1, State::S8), side.other(), 0, 0xFF00),
+        (Some(side), 1) => (side.pick(State::S5, State::S9), side, 2, 0xFF00),
+        (Some(side), _) => (side.pick(State::S6, State::S10), side.other(), 0, 0x0000),
+    };
+    marking(state, side, cell, value, place == 0)
 }
 
 // ---- what stands at a place
-fn save_spot(start: State, erased: bool, page: u32, place: u32) -> Spot
-    requires { place < step_count Save start erased page }
-    ensures { result ≡ save_spot start erased page place }
+fn save_spot(plan: Plan, place: u32) -> Spot
+    requires { place < step_count Save plan.start plan.erased plan.page }
+    ensures { result ≡ save_spot plan.start plan.erased plan.page place }
 {
-    let before = plans::added_steps(start, erased) - 3;
+    let before = plans::added_steps(plan.start, plan.erased) - 3;
     if place < before {
-        return Spot::Fixed(ready_entry(start, place));
+        return Spot::Fixed(ready_entry(plan.start, place));
     }
-    let live = start.live();
+    let live = plan.start.live();
     let cell = place - before;
-    let cells = plans::cell_count(page);
+    let cells = plans::cell_count(plan.page);
     if cell < cells {
-        let state = clean_state(live);
         let side = target_side(live);
-        let inside = cell * 2;
-        return Spot::Cell(state, side, ImageOffset(inside));
-    }
-    Spot::Fixed(mark_entry(live, cell - cells))
-}
-
-// What the look-up finds at a place.
-fn find_spot(request: Request, start: State, erased: bool, page: u32, place: u32) -> Spot
-    ensures { result ≡ spot_of request start erased page place }
-{
-    if plans::step_count(request, start, erased, page) <= place {
-        return Spot::Beyond;
-    }
-    match request {
-        Request::Save => save_spot(start, erased, page, place),
-        Request::Format => Spot::Fixed(format_entry(start, place)),
+        let at = ImageOffset(cell * 2);
+        Spot::Cell(clean_state(live), ImageCell { side, at })
+    } else {
+        Spot::Fixed(mark_entry(live, cell - cells))
     }
 }
 
-// What stands at a place of the list of a request that begins at a line, on pages of P bytes,
-// whatever the new image is.
-pub fn spot_at(request: Request, start: State, erased: bool, page: u32, place: u32) -> Spot
-    ensures { Stands request start erased page place result }
+// What stands at a place of a list on pages of P bytes, whatever the new image is; nothing at its end
+// and beyond.
+pub fn spot_at(plan: Plan, place: u32) -> Option<Spot>
+    ensures { Stands plan.request plan.start plan.erased plan.page place result }
 {
-    find_spot(request, start, erased, page, place)
+    if plan.step_count() <= place {
+        return None;
+    }
+    match plan.request {
+        Request::Save => Some(save_spot(plan, place)),
+        Request::Format => Some(Spot::Fixed(format_entry(plan.start, place))),
+    }
 }
 
 // The image cell at a place of a save's list.
-fn save_cell(start: State, erased: bool, page: u32, place: u32) -> InCells
-    ensures { cell_in result ≡ spot_cell (save_spot start erased page place) }
+fn save_cell(plan: Plan, place: u32) -> Option<ImageCell>
+    ensures { result ≡ cell_of (save_spot plan.start plan.erased plan.page place) }
 {
-    let before = plans::added_steps(start, erased) - 3;
-    if place < before {
-        return InCells::Outside;
+    let cell = place.checked_sub(plans::added_steps(plan.start, plan.erased) - 3)?;
+    if cell < plans::cell_count(plan.page) {
+        let side = target_side(plan.start.live());
+        let at = ImageOffset(cell * 2);
+        Some(ImageCell { side, at })
+    } else {
+        None
     }
-    let cell = place - before;
-    if cell < plans::cell_count(page) {
-        let side = target_side(start.live());
-        let inside = cell * 2;
-        return InCells::At(side, ImageOffset(inside));
-    }
-    InCells::Outside
 }
 
 // The image cell that stands at a place of the list, if one does: nearly every step of a save is
 // one, so a walk asks for it before it asks what else stands there.
-pub fn cell_at(request: Request, start: State, erased: bool, page: u32, place: u32) -> InCells
-    ensures { Programs request start erased page place result }
+pub fn cell_at(plan: Plan, place: u32) -> Option<ImageCell>
+    ensures { Programs plan.request plan.start plan.erased plan.page place result }
 {
-    match request {
-        Request::Save => save_cell(start, erased, page, place),
-        Request::Format => InCells::Outside,
+    match plan.request {
+        Request::Save => save_cell(plan, place),
+        Request::Format => None,
     }
 }

@@ -7,19 +7,61 @@ ghost use Rattle.std.specs.Prelude.{◌≤◌};
 
 use pages::PageOffset;
 use prints::Output;
-use walks::{Begun, Walk};
+use requests::Refusal;
+use std::fmt;
+use std::fmt::Write;
+use walks::Walk;
 
-// The length of the pages, a page offset, a length, and document 01's number for them; 0 where they
-// are legal. At number 1 document 01 names no offset and no length: 4 and 2 meet no other number.
+// The length of the longest pages that are asked on.
+const MOST: usize = 4098;
+
+// The length of the pages, a page offset, a length, and document 01's number for them. At number 1
+// document 01 names no offset and no length: 4 and 2 meet no other number.
 #[derive(Clone, Copy)]
-struct Vector(usize, u32, u32, u8);
+struct Vector {
+    page: usize,
+    offset: PageOffset,
+    len: u32,
+    number: Number,
+    ghost page_fits: { page ≤ 4098 },
+    ghost len_fits: { len ≤ 4098 },
+}
+
+// Document 01's number for a request that is refused; none where it is legal.
+#[derive(Clone, Copy, PartialEq, Eq)]
+struct Number(Option<u8>);
 
 const VECTORS: [Vector; 5] = [
-    Vector(8, 3, 2, 2),
-    Vector(8, 6, 2, 0),
-    Vector(8, 6, 4, 4),
-    Vector(6, 4, 2, 1),
-    Vector(4098, 4, 2, 1),
+    Vector {
+        page: 8,
+        offset: PageOffset(3),
+        len: 2,
+        number: Number(Some(2)),
+    },
+    Vector {
+        page: 8,
+        offset: PageOffset(6),
+        len: 2,
+        number: Number(None),
+    },
+    Vector {
+        page: 8,
+        offset: PageOffset(6),
+        len: 4,
+        number: Number(Some(4)),
+    },
+    Vector {
+        page: 6,
+        offset: PageOffset(4),
+        len: 2,
+        number: Number(Some(1)),
+    },
+    Vector {
+        page: 4098,
+        offset: PageOffset(4),
+        len: 2,
+        number: Number(Some(1)),
+    },
 ];
 
 // What the library is asked for: the read without a copy, the copying read, a save or a format.
@@ -31,302 +73,200 @@ enum Question {
     Format,
 }
 
-// The number that came, 255 where a vector wants more bytes than there are; and whether the bytes of
-// a read are those that go with it.
+const QUESTIONS: [Question; 4] = [
+    Question::Read,
+    Question::Copy,
+    Question::Save,
+    Question::Format,
+];
+
+// The number that came and document 01's; and whether the bytes of a read are those that go with it.
 #[derive(Clone, Copy)]
 struct Answer {
-    number: u8,
+    number: Number,
+    wanted: Number,
     fitting: bool,
 }
 
-// Whether each question was answered as document 01 does.
-#[derive(Clone, Copy)]
-struct Right {
-    read: bool,
-    copy: bool,
-    save: bool,
-    format: bool,
+// ---- asking
+impl Vector {
+    // The asked bytes of a page; none where they don't lie in it.
+    fn asked_of(self, page: &[u8]) -> &[u8] {
+        let start = self.offset.0 as usize;
+        page.get(start..start + self.len as usize).unwrap_or(&[])
+    }
 }
 
-// ---- asking
-// The asked bytes of a page; none where they don't lie in it.
-fn asked_of<'a>(page: &'a [u8], offset: u32, len: usize) -> &'a [u8] {
-    let start = offset as usize;
-    if page.len() < start {
-        return &page[0..0];
+// A number of the library, which is 0 where the request is legal.
+impl From<u8> for Number {
+    fn from(number: u8) -> Number {
+        Number((number != 0).then_some(number))
     }
-    if page.len() - start < len {
-        return &page[0..0];
+}
+
+impl From<Result<Walk, Refusal>> for Number {
+    fn from(begun: Result<Walk, Refusal>) -> Number {
+        match begun {
+            Ok(_) => Number(None),
+            Err(why) => why.number().into(),
+        }
     }
-    let end = start + len;
-    &page[start..end]
 }
 
 // The read without a copy: the asked part of LEFT where it is legal, else none.
-fn ask_read<'a>(left: &'a [u8], right: &'a [u8], offset: u32, len: u32) -> Answer {
-    let reading = reads::check_read(left, right, PageOffset(offset), len);
-    let number = reading.number();
-    let part = reads::read(left, right, PageOffset(offset), len);
-    let fitting = if number == 0 {
-        check::same(part, asked_of(left, offset, len as usize))
+fn ask_read(vector: Vector, left: &[u8], right: &[u8]) -> (Number, bool) {
+    let reading = reads::check_read(left, right, vector.offset, vector.len);
+    let number = Number::from(reads::number_of(reading));
+    let part = reads::read(left, right, vector.offset, vector.len);
+    if number.0.is_none() {
+        (number, part == vector.asked_of(left))
     } else {
-        part.len() == 0
-    };
-    Answer {
-        number: number,
-        fitting: fitting,
+        (number, part.is_empty())
     }
 }
 
 // The copying read: the output then holds the asked part of LEFT where it is legal, else what it
 // held before.
-fn ask_copy<'a>(
-    left: &'a [u8],
-    right: &'a [u8],
-    offset: u32,
+fn ask_copy(
+    vector: Vector,
+    left: &[u8],
+    right: &[u8],
     out: &mut [u8],
     before: &[u8],
-) -> Answer {
-    let reading = reads::read_into(left, right, PageOffset(offset), out);
-    let number = reading.number();
-    let fitting = if number == 0 {
-        check::same(out, asked_of(left, offset, before.len()))
+) -> (Number, bool) {
+    let reading = reads::read_into(left, right, vector.offset, out);
+    let number = Number::from(reads::number_of(reading));
+    if number.0.is_none() {
+        (number, &*out == vector.asked_of(left))
     } else {
-        check::same(out, before)
-    };
-    Answer {
-        number: number,
-        fitting: fitting,
+        (number, &*out == before)
     }
 }
 
-fn ask_begun(begun: Begun) -> Answer {
-    let number = match begun {
-        Begun::On(_) => 0,
-        Begun::Refused(why) => why.number(),
-    };
-    Answer {
-        number: number,
-        fitting: true,
+impl Question {
+    // What the library answers on two pages at line 3, where LEFT is live, with another image in each.
+    // A save's data is what a copy's output holds before.
+    fn answer(self, vector: Vector) -> Answer {
+        let mut left = [17u8; MOST];
+        left[..4].copy_from_slice(&[0, 0, 255, 255]);
+        left[7] = 18;
+        let mut right = [34u8; MOST];
+        right[..4].copy_from_slice(&[0, 0, 0, 255]);
+        let mut out = [165u8; MOST];
+        let lent = [165u8; MOST];
+        let left = &left[..vector.page];
+        let right = &right[..vector.page];
+        let out = &mut out[..vector.len as usize];
+        let lent = &lent[..vector.len as usize];
+        let (number, fitting) = match self {
+            Question::Read => ask_read(vector, left, right),
+            Question::Copy => ask_copy(vector, left, right, out, lent),
+            Question::Save => (
+                Number::from(Walk::save(left, right, vector.offset, lent)),
+                true,
+            ),
+            Question::Format => (Number::from(Walk::format(left, right)), true),
+        };
+        Answer {
+            number,
+            wanted: self.wanted(vector.number),
+            fitting,
+        }
+    }
+
+    // Document 01's number for a question: "A format has no offset and can only meet 1".
+    fn wanted(self, number: Number) -> Number {
+        match self {
+            Question::Format => Number(number.0.filter(|number| *number == 1)),
+            Question::Read | Question::Copy | Question::Save => number,
+        }
     }
 }
 
-// Asks on these pages. The bytes lent are a save's data, and what a copy's output holds before.
-fn ask<'a>(
-    question: Question,
-    left: &'a [u8],
-    right: &'a [u8],
-    offset: u32,
-    len: u32,
-    out: &mut [u8],
-    lent: &[u8],
-) -> Answer {
-    match question {
-        Question::Read => ask_read(left, right, offset, len),
-        Question::Copy => ask_copy(left, right, offset, out, lent),
-        Question::Save => ask_begun(Walk::save(left, right, PageOffset(offset), lent)),
-        Question::Format => ask_begun(Walk::format(left, right)),
-    }
-}
-
-// Asks on the first bytes of what is lent.
-fn ask_first<'a>(
-    question: Question,
-    vector: Vector,
-    left: &'a [u8],
-    right: &'a [u8],
-    out: &mut [u8],
-    lent: &[u8],
-) -> Answer {
-    let page = vector.0;
-    let len = vector.2 as usize;
-    let missing = Answer {
-        number: 255,
-        fitting: false,
-    };
-    if left.len() < page {
-        return missing;
-    }
-    if right.len() < page {
-        return missing;
-    }
-    if out.len() < len {
-        return missing;
-    }
-    if lent.len() < len {
-        return missing;
-    }
-    ask(
-        question,
-        &left[0..page],
-        &right[0..page],
-        vector.1,
-        vector.2,
-        &mut out[0..len],
-        &lent[0..len],
-    )
-}
-
-fn lend<'a>(
-    question: Question,
-    vector: Vector,
-    left: &'a [u8; 4098],
-    right: &'a [u8; 4098],
-    out: &mut [u8; 4098],
-    lent: &[u8; 4098],
-) -> Answer {
-    ask_first(question, vector, left, right, out, lent)
-}
-
-// What the library answers on two pages at line 3, where LEFT is live, with another image in each.
-fn answer_to(question: Question, vector: Vector) -> Answer {
-    let mut left = [17u8; 4098];
-    left[0] = 0;
-    left[1] = 0;
-    left[2] = 255;
-    left[3] = 255;
-    left[7] = 18;
-    let mut right = [34u8; 4098];
-    right[0] = 0;
-    right[1] = 0;
-    right[2] = 0;
-    right[3] = 255;
-    let mut out = [165u8; 4098];
-    let lent = [165u8; 4098];
-    lend(question, vector, &left, &right, &mut out, &lent)
-}
-
-// Document 01's number for a question: "A format has no offset and can only meet 1".
-fn number_for(question: Question, number: u8) -> u8 {
-    match question {
-        Question::Read => number,
-        Question::Copy => number,
-        Question::Save => number,
-        Question::Format => if number == 1 { 1 } else { 0 },
+impl Answer {
+    fn is_right(self) -> bool {
+        self.number == self.wanted && self.fitting
     }
 }
 
 // ---- printing
-fn print_answer(out: &mut Output, number: u8) {
-    if number == 0 {
-        prints::text(out, b"legal");
-    } else {
-        prints::labelled(out, b"number ", number as u64);
+impl fmt::Display for Vector {
+    fn fmt<W: fmt::Write>(&self, f: &mut fmt::Formatter<W>) -> fmt::Result {
+        write!(
+            f,
+            "P {}, offset {}, length {}",
+            self.page, self.offset.0, self.len
+        )
     }
 }
 
-fn print_vector(out: &mut Output, vector: Vector) {
-    prints::labelled(out, b"P ", vector.0 as u64);
-    prints::labelled(out, b", offset ", vector.1 as u64);
-    prints::labelled(out, b", length ", vector.2 as u64);
-}
-
-fn print_fit(out: &mut Output, fitting: bool) {
-    if !fitting {
-        prints::text(out, b" with wrong bytes");
+impl fmt::Display for Number {
+    fn fmt<W: fmt::Write>(&self, f: &mut fmt::Formatter<W>) -> fmt::Result {
+        match self.0 {
+            None => f.write_str("legal"),
+            Some(number) => write!(f, "number {number}"),
+        }
     }
 }
 
-// Prints what document 01 gives where it is another number.
-fn print_wanted(out: &mut Output, same: bool, number: u8) {
-    if !same {
-        prints::text(out, b", but document 01 gives ");
-        print_answer(out, number);
+impl fmt::Display for Question {
+    fn fmt<W: fmt::Write>(&self, f: &mut fmt::Formatter<W>) -> fmt::Result {
+        f.write_str(match self {
+            Question::Read => "read",
+            Question::Copy => "copy",
+            Question::Save => "save",
+            Question::Format => "format",
+        })
     }
 }
 
-// Asks and prints the answer, and says whether it is document 01's.
-fn run_question(out: &mut Output, label: &[u8], question: Question, vector: Vector) -> bool {
-    let given = answer_to(question, vector);
-    let number = number_for(question, vector.3);
-    let same = given.number == number;
-    prints::text(out, label);
-    print_answer(out, given.number);
-    print_fit(out, given.fitting);
-    print_wanted(out, same, number);
-    same & given.fitting
-}
-
-// Asks a vector in each way, and prints its line.
-fn run(out: &mut Output, vector: Vector) -> Right {
-    print_vector(out, vector);
-    let read = run_question(out, b": read ", Question::Read, vector);
-    let copy = run_question(out, b"; copy ", Question::Copy, vector);
-    let save = run_question(out, b"; save ", Question::Save, vector);
-    let format = run_question(out, b"; format ", Question::Format, vector);
-    prints::text(out, b"\n");
-    Right {
-        read: read,
-        copy: copy,
-        save: save,
-        format: format,
+impl fmt::Display for Answer {
+    fn fmt<W: fmt::Write>(&self, f: &mut fmt::Formatter<W>) -> fmt::Result {
+        write!(f, "{}", self.number)?;
+        if !self.fitting {
+            f.write_str(" with wrong bytes")?;
+        }
+        if self.number != self.wanted {
+            write!(f, ", but document 01 gives {}", self.wanted)?;
+        }
+        Ok(())
     }
 }
 
-// How many vectors were answered wrong, by what was asked.
-#[derive(Clone, Copy)]
-struct Wrong {
-    reads: u64,
-    copies: u64,
-    saves: u64,
-    formats: u64,
+// Prints a vector's line.
+fn print_line(out: &mut Output, vector: Vector) -> fmt::Result {
+    write!(out, "{vector}")?;
+    let mut before = ": ";
+    for question in QUESTIONS {
+        write!(out, "{before}{question} {}", question.answer(vector))?;
+        before = "; ";
+    }
+    writeln!(out)
 }
 
-fn one_if_wrong(right: bool) -> u64
-    ensures { result ≤ 1 }
-{
-    if right { 0 } else { 1 }
+// How many vectors get a wrong answer to a question. Each is asked anew, which changes no answer.
+fn count_wrong(question: Question) -> usize {
+    VECTORS
+        .iter()
+        .filter(|vector| !question.answer(**vector).is_right())
+        .count()
 }
 
-fn run_all(out: &mut Output) -> Wrong {
-    let vectors = VECTORS;
-    let mut reads: u64 = 0;
-    let mut copies: u64 = 0;
-    let mut saves: u64 = 0;
-    let mut formats: u64 = 0;
-    for i in 0..5 {
-        let right = run(out, vectors[i]);
-        reads += one_if_wrong(right.read);
-        copies += one_if_wrong(right.copy);
-        saves += one_if_wrong(right.save);
-        formats += one_if_wrong(right.format);
+fn run(out: &mut Output) -> fmt::Result {
+    for vector in VECTORS {
+        print_line(out, vector)?;
     }
-    Wrong {
-        reads: reads,
-        copies: copies,
-        saves: saves,
-        formats: formats,
-    }
-}
-
-fn is_none(wrong: Wrong) -> bool {
-    if wrong.reads != 0 {
-        return false;
-    }
-    if wrong.copies != 0 {
-        return false;
-    }
-    if wrong.saves != 0 {
-        return false;
-    }
-    wrong.formats == 0
-}
-
-fn run_program(out: &mut Output) {
-    let wrong = run_all(out);
-    if is_none(wrong) {
-        prints::text(out, b"all 5 examples are as document 01 gives them\n");
-    } else {
-        prints::labelled(out, b"of 5 examples WRONG: read ", wrong.reads);
-        prints::labelled(out, b", copy ", wrong.copies);
-        prints::labelled(out, b", save ", wrong.saves);
-        prints::labelled(out, b", format ", wrong.formats);
-        prints::text(out, b"\n");
+    match QUESTIONS.map(count_wrong) {
+        [0, 0, 0, 0] => writeln!(out, "all 5 examples are as document 01 gives them"),
+        [read, copy, save, format] => writeln!(
+            out,
+            "of 5 examples WRONG: read {read}, copy {copy}, save {save}, format {format}"
+        ),
     }
 }
 
 fn main(rt: HostRuntime) {
     let mut out = Output::new(rt);
-    run_program(&mut out);
-    prints::flush(&mut out);
+    let _ = run(&mut out);
+    out.flush();
 }

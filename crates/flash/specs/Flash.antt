@@ -4,13 +4,11 @@
 -- Not here: which bytes of a page are management and which are image (the crate pages). Laws:
 -- proofs/Laws.antt.
 -- Assumes nothing.
+use Rattle.std.specs.Prelude.{Option, Some, None, Result, Ok, Err}
 use Rattle.std.specs.Prelude.{ℕ, ◌+◌, ◌*◌, ◌/◌, ◌%◌, ◌<◌, Bool, true, cond, ◌&&◌, List, [], ◌∷◌, eqb, ltb, length, get_or, set, replicate}
-use Rattle.std.proofs.Math.Option.{Option, none, some}
 use Rattle.std.specs.Int.Bits.{bit_and}
-use Rattle.flash.specs.declared.Cell.{Cell}
-use Rattle.flash.specs.declared.Cell.TheVariants.{Holds, Outside}
-use Rattle.flash.specs.declared.Programmed.{Programmed}
-use Rattle.flash.specs.declared.Programmed.TheVariants.{Made, Unfit}
+use Rattle.flash.specs.declared.StepError.{StepError}
+use Rattle.flash.specs.declared.StepError.TheVariants.{Unfit}
 
 -- every number is a byte: what a lent `[u8]` always holds
 abbrev pub Bytes : List ℕ → Type 0
@@ -34,12 +32,7 @@ cell_at l i = cell_number (get_or l i 0) (get_or l (i + 1) 0)
 
 -- the number of the cell at a place, if one is there
 unfoldable pub cell_of : List ℕ → ℕ → Option ℕ
-cell_of l i = cond (is_cell l i) (some (cell_at l i)) none
-
--- what each answer to a look at a cell says: the number that it holds, or that no cell is there
-abbrev pub cell_in : Cell → Option ℕ
-cell_in (Holds v) = some v
-cell_in Outside = none
+cell_of l i = cond (is_cell l i) (Some (cell_at l i)) None
 
 -- the list with a number's two bytes at a place
 unfoldable pub stored : List ℕ → ℕ → ℕ → List ℕ
@@ -59,9 +52,9 @@ pub record Outcome : Type 0 where
   pub bytes : List ℕ
 
 -- document 01's number for each answer: a step that doesn't fit is 6
-abbrev pub number_in : Programmed → ℕ
-number_in Made = 0
-number_in Unfit = 6
+abbrev pub number_in : Result (Unit {0}) StepError → ℕ
+number_in (Ok made) = 0
+number_in (Err Unfit) = 6
 
 -- "every bit of the cell becomes old AND new. A step asked to turn a 0 bit into a 1 isn't made
 -- (refusal 6)"

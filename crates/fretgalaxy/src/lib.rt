@@ -5,7 +5,7 @@
 ghost use Rattle.std.specs.Prelude.{◌≡◌};
 ghost use Rattle.replays.specs.Replays.{Outcome, replayed};
 
-use replays::Replayed;
+use scripts::ScriptError;
 
 // What happened (0: replayed, 1: the script is malformed, 2: its answers have no room) and a place:
 // how many bytes of the output the answers take, or the byte of the script at which the refused
@@ -40,17 +40,8 @@ pub extern "C" fn fretgalaxy_replay(
         out.old) }
 {
     match replays::replay(left, right, script, out) {
-        Replayed::Done(place) => Report {
-            status: 0,
-            place: place,
-        },
-        Replayed::Malformed(place) => Report {
-            status: 1,
-            place: place,
-        },
-        Replayed::NoRoom(place) => Report {
-            status: 2,
-            place: place,
-        },
+        Ok(place) => Report { status: 0, place },
+        Err(ScriptError::Malformed(place)) => Report { status: 1, place },
+        Err(ScriptError::NoRoom(place)) => Report { status: 2, place },
     }
 }

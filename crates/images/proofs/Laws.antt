@@ -2,11 +2,11 @@
 -- In order: the data's cell; a cell of the new image by what stands in the data and in the old image; the same cell as
 -- that of the image with the data laid in.
 -- Not here: laying bytes in (Overlay.antt, Laid.antt). Assumes nothing.
+use Rattle.std.specs.Prelude.{unwrap_or, Some, None}
 use Prim.Native.Nat.{ℕ, ◌+◌, ◌-◌, ◌%◌, ◌<◌, ◌≤◌}
 use mathlib.Core.Path.{◌≡◌, refl, sym, ap, ap₂, subst, ◌∙◌}
 use mathlib.Core.Bool.{Bool, true, false}
 use mathlib.Core.List.{List, []}
-use mathlib.Core.Option.{none, some}
 use mathlib.Core.Logic.{inl, inr}
 use native.Mathlib.Omega.{arith}
 use lib.Dec.{ltb}
@@ -23,7 +23,7 @@ use Rattle.images.proofs.Overlay.{byte_outside, byte_inside}
 use Rattle.images.proofs.Laid.{laid_at}
 
 -- ---- the data's cell
-pub data_before : (o : PageOffset) (d : List ℕ) (i : ImageOffset) → (to_page i).0 < o.0 → data_cell o d i ≡ none
+pub data_before : (o : PageOffset) (d : List ℕ) (i : ImageOffset) → (to_page i).0 < o.0 → data_cell o d i ≡ None
 unfolding data_cell
 data_before o d i h = simp (lt-leb o.0 (to_page i).0 h)
 
@@ -33,24 +33,24 @@ unfolding data_cell
 data_from o d i h = simp (le-leb o.0 (to_page i).0 h)
 
 -- ---- a cell of the new image: the data's, else the old image's, else FFFF
-pub new_data : (old : List ℕ) (o : PageOffset) (d : List ℕ) (i : ImageOffset) (v : ℕ) → data_cell o d i ≡ some v
+pub new_data : (old : List ℕ) (o : PageOffset) (d : List ℕ) (i : ImageOffset) (v : ℕ) → data_cell o d i ≡ Some v
     → new_cell old o d i ≡ v
 unfolding new_cell
 new_data old o d i v e = simp e
 
-pub new_kept : (old : List ℕ) (o : PageOffset) (d : List ℕ) (i : ImageOffset) (v : ℕ) → data_cell o d i ≡ none
-    → cell_of old i.0 ≡ some v → new_cell old o d i ≡ v
+pub new_kept : (old : List ℕ) (o : PageOffset) (d : List ℕ) (i : ImageOffset) (v : ℕ) → data_cell o d i ≡ None
+    → cell_of old i.0 ≡ Some v → new_cell old o d i ≡ v
 unfolding new_cell
 new_kept old o d i v e k = simp (e, k)
 
-pub new_blank : (old : List ℕ) (o : PageOffset) (d : List ℕ) (i : ImageOffset) → data_cell o d i ≡ none
-    → cell_of old i.0 ≡ none → new_cell old o d i ≡ 65535
+pub new_old : (old : List ℕ) (o : PageOffset) (d : List ℕ) (i : ImageOffset) → data_cell o d i ≡ None
+    → unwrap_or (cell_of old i.0) 65535 ≡ new_cell old o d i
 unfolding new_cell
-new_blank old o d i e k = simp (e, k)
+new_old old o d i e = sym (simp e)
 
 -- ---- the cells of the image with the data laid in
 kept_cell : (old : List ℕ) (o : PageOffset) (d : List ℕ) (i : ImageOffset) → i.0 % 2 ≡ 0 → i.0 + 1 < length old
-    → data_cell o d i ≡ none → new_cell old o d i ≡ cell_at old i.0
+    → data_cell o d i ≡ None → new_cell old o d i ≡ cell_at old i.0
 kept_cell old o d i e h k = new_kept old o d i (cell_at old i.0) k (cell_here old i.0 e h)
 
 -- even places that lie in the image: what a legal save and an image cell of its page fulfil
@@ -105,13 +105,13 @@ no_old : (n : ℕ) (o : PageOffset) (d : List ℕ) (i : ImageOffset) → i.0 % 2
     → new_cell [] o d i ≡ new_cell (replicate n 255) o d i
 unfolding new_cell
 no_old n o d i e h =
-    let none-there : cell_of [] i.0 ≡ none = cell_past [] i.0 e (omega arith) in
+    let None-there : cell_of [] i.0 ≡ None = cell_past [] i.0 e (omega arith) in
     let m : length {A = ℕ} (replicate n 255) ≡ n = length-replicate n 255 in
-    let ff : cell_of (replicate n 255) i.0 ≡ some 0xFFFF =
+    let ff : cell_of (replicate n 255) i.0 ≡ Some 0xFFFF =
     cell_here (replicate n 255) i.0 e (omega arith)
-    ∙ ap₂ (λ (a b : ℕ). some (cell_number a b))
+    ∙ ap₂ (λ (a b : ℕ). Some (cell_number a b))
     (get_or-replicate n i.0 255 0 (omega arith)) (get_or-replicate n (i.0 + 1) 255 0 h) in
-    simp (none-there, ff)
+    simp (None-there, ff)
 
 pub new_cell_blank : (n : ℕ) (o : PageOffset) (d : List ℕ) (i : ImageOffset) → Places n o (length d) i
     → new_cell [] o d i ≡ cell_at (laid_in (replicate n 255) o d) i.0

@@ -1,3 +1,4 @@
 pub mod Laid
 pub mod Laws
 pub mod Overlay
+pub mod Parts

@@ -4,21 +4,19 @@
 #![tactic(auto)]
 
 ghost use Rattle.std.specs.Prelude.{◌≡◌};
-ghost use Rattle.flash.specs.Flash.{cell_in};
 ghost use Rattle.images.specs.Images.{data_cell, new_cell};
 
-use flash::Cell;
 use pages::{ImageOffset, PageOffset};
 
-// The cell of the data, saved at a page offset, that lies at an image offset; Outside where the data
+// The cell of the data, saved at a page offset, that lies at an image offset; none where the data
 // doesn't reach.
-fn data_cell(offset: PageOffset, data: &[u8], at: ImageOffset) -> Cell
-    ensures { cell_in result ≡ data_cell offset «data».now at }
+fn data_cell(offset: PageOffset, data: &[u8], at: ImageOffset) -> Option<u16>
+    ensures { result ≡ data_cell offset «data».now at }
 {
     let start = offset.0;
     let place = at.to_page().0;
     if place < start {
-        return Cell::Outside;
+        return None;
     }
     flash::cell_at(data, (place - start) as usize)
 }
@@ -29,10 +27,7 @@ pub fn new_cell(old: &[u8], offset: PageOffset, data: &[u8], at: ImageOffset) ->
     ensures { result ≡ new_cell old.now offset «data».now at }
 {
     match data_cell(offset, data, at) {
-        Cell::Holds(new) => new,
-        Cell::Outside => match flash::cell_at(old, at.0 as usize) {
-            Cell::Holds(kept) => kept,
-            Cell::Outside => 65535,
-        },
+        Some(new) => new,
+        None => flash::cell_at(old, at.0 as usize).unwrap_or(65535),
     }
 }

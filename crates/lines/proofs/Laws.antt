@@ -1,6 +1,7 @@
 -- Laws of what a walk begins with.
 -- In order: where erased-or-not counts; which pages it is of; both together; what an answer says.
 -- Assumes nothing.
+use Rattle.std.specs.Prelude.{Option, Some, None}
 use Prim.Native.Nat.{ℕ}
 use mathlib.Core.Path.{◌≡◌, sym, ap, ◌∙◌}
 use mathlib.Core.Bool.{Bool, true, false, ◌&&◌}
@@ -10,8 +11,6 @@ use borrow.Author.Tests.{eq-eqb, ne_eqb}
 use Rattle.flash.specs.Flash.{is_erased}
 use Rattle.pages.specs.declared.Side.{Side}
 use Rattle.pages.specs.declared.State.{State}
-use Rattle.pages.specs.declared.Live.{Live}
-use Rattle.pages.specs.declared.Live.TheVariants.{Nowhere, On}
 use Rattle.pages.specs.declared.Status.{Status}
 use Rattle.pages.specs.Pages.{on_side, status_of, line_of, live_of, standing}
 use Rattle.pages.proofs.Laws.{line_same, standing_same}
@@ -36,16 +35,16 @@ counts_eight start h k = sym (simp (ne_eqb (line_of start) 0 h, ne_eqb (line_of 
 pub counts_format : (start : State) → (line_of start ≡ 0 → ⊥) → false ≡ counts Format start
 counts_format start h = sym (ne_eqb (line_of start) 0 h)
 
-pub none_first : (live : Live) (l r : List ℕ) → live ≡ Nowhere → is_erased l ≡ false → false ≡ others_erased live l r
-none_first live l r e h = sym (ap (λ (x : Live). others_erased x l r) e ∙ simp h)
+pub none_first : (live : Option Side) (l r : List ℕ) → live ≡ None → is_erased l ≡ false → false ≡ others_erased live l r
+none_first live l r e h = sym (ap (λ (x : Option Side). others_erased x l r) e ∙ simp h)
 
-pub none_second : (live : Live) (l r : List ℕ) (t : Bool) → live ≡ Nowhere → is_erased l ≡ true → t ≡ is_erased r
+pub none_second : (live : Option Side) (l r : List ℕ) (t : Bool) → live ≡ None → is_erased l ≡ true → t ≡ is_erased r
     → t ≡ others_erased live l r
-none_second live l r t e h k = k ∙ sym (ap (λ (x : Live). others_erased x l r) e ∙ simp h)
+none_second live l r t e h k = k ∙ sym (ap (λ (x : Option Side). others_erased x l r) e ∙ simp h)
 
-pub other_erased : (live : Live) (s : Side) (l r : List ℕ) (t : Bool) → live ≡ On s
+pub other_erased : (live : Option Side) (s : Side) (l r : List ℕ) (t : Bool) → live ≡ Some s
     → t ≡ is_erased (on_side (other s) l r) → t ≡ others_erased live l r
-other_erased live s l r t e k = k ∙ ap (λ (x : Live). others_erased x l r) (sym e)
+other_erased live s l r t e k = k ∙ ap (λ (x : Option Side). others_erased x l r) (sym e)
 
 pub erased_counts : (a b t : Bool) → a ≡ true → t ≡ b → t ≡ (a && b)
 erased_counts a b t e h = h ∙ sym (simp e)
@@ -63,7 +62,7 @@ looked request l r s t told h =
     let q : t ≡ (counts request (status_of l r).state && others_erased (live_of (status_of l r).state) l r) =
     h
     ∙ ap (λ (x : Status). counts request x.state && others_erased x.live l r) e
-    ∙ ap (λ (x : Live). counts request (status_of l r).state && others_erased x l r) (status_live l r) in
+    ∙ ap (λ (x : Option Side). counts request (status_of l r).state && others_erased x l r) (status_live l r) in
     λ i. record { state = p i; erased = q i }
 
 -- a start is known by what it says

@@ -1,5 +1,6 @@
 -- Laws of lines: whether the pages are at a line, by the two words of its row.
 -- Not here: the table (pages.proofs.Table). Assumes nothing.
+use Rattle.std.specs.Prelude.{Option, Some, None}
 use Prim.Native.Nat.{ℕ, ◌<◌}
 use mathlib.Core.Path.{◌≡◌, refl, sym, ap, ◌∙◌}
 use mathlib.Core.Bool.{Bool, true, false, ◌&&◌}
@@ -10,8 +11,6 @@ use lib.ListN.{length, get_or, get_or-eq_default}
 use borrow.Author.Tests.{eqb-true, eqb-false, eq-eqb, ne_eqb}
 use Rattle.pages.specs.declared.Side.{Side}
 use Rattle.pages.specs.declared.Side.TheVariants.{Left, Right}
-use Rattle.pages.specs.declared.Live.{Live}
-use Rattle.pages.specs.declared.Live.TheVariants.{Nowhere, On}
 use Rattle.pages.specs.declared.State.TheVariants.{S0}
 use Rattle.pages.specs.declared.State.{State}
 use Rattle.pages.specs.Pages.{word_of, status_of, line_of, row_of}
@@ -50,6 +49,9 @@ none_alike wanted s h = sym (at_none S0 s refl) ∙ at_none wanted s h
 not_there : (wanted s : State) → (s ≡ wanted → ⊥) → false ≡ meets wanted s
 not_there wanted s h = sym (ne_eqb (line_of wanted) (line_of s) (λ e. h (sym (line_same wanted s e))))
 
+pub other_line : (wanted : State) → (wanted ≡ S0 → ⊥) → line_of wanted ≡ 0 → ⊥
+other_line wanted h e = h (line_same wanted S0 e)
+
 pub row_decides : (wanted : State) (l r : List ℕ) → (line_of wanted ≡ 0 → ⊥)
     → (eqb (word_of l) (row_of wanted).0 && eqb (word_of r) (row_of wanted).1) ≡ meets wanted (status_of l r).state
 row_decides wanted l r h = go (eqb (word_of l) (row_of wanted).0) (eqb (word_of r) (row_of wanted).1) refl refl
@@ -74,18 +76,14 @@ pub right_decides : (a b l r : ℕ) → a ≡ l → eqb b r ≡ (eqb a l && eqb 
 right_decides a b l r e = sym (simp (eq-eqb a l e))
 
 -- at the line of the image cells, which the live side tells
-pub clean_none : (live : Live) (l r : List ℕ) (t : Bool) → live ≡ Nowhere → t ≡ meets S0 (status_of l r).state
-    → t ≡ meets (clean live) (status_of l r).state
-clean_none live l r t e h = h ∙ ap (λ (x : Live). meets (clean x) (status_of l r).state) (sym e)
-
 side_decides : (s : Side) (l r : List ℕ)
-    → (eqb (word_of l) (row_of (clean (On s))).0 && eqb (word_of r) (row_of (clean (On s))).1)
-    ≡ meets (clean (On s)) (status_of l r).state
-side_decides Left l r = row_decides (clean (On Left)) l r (λ e. absurd (omega (arith, e)))
-side_decides Right l r = row_decides (clean (On Right)) l r (λ e. absurd (omega (arith, e)))
+    → (eqb (word_of l) (row_of (clean (Some s))).0 && eqb (word_of r) (row_of (clean (Some s))).1)
+    ≡ meets (clean (Some s)) (status_of l r).state
+side_decides Left l r = row_decides (clean (Some Left)) l r (λ e. absurd (omega (arith, e)))
+side_decides Right l r = row_decides (clean (Some Right)) l r (λ e. absurd (omega (arith, e)))
 
-pub clean_side : (live : Live) (s : Side) (l r : List ℕ) (t : Bool) → live ≡ On s
-    → t ≡ (eqb (word_of l) (row_of (clean (On s))).0 && eqb (word_of r) (row_of (clean (On s))).1)
+pub clean_side : (live : Option Side) (s : Side) (l r : List ℕ) (t : Bool) → live ≡ Some s
+    → t ≡ (eqb (word_of l) (row_of (clean (Some s))).0 && eqb (word_of r) (row_of (clean (Some s))).1)
     → t ≡ meets (clean live) (status_of l r).state
 clean_side live s l r t e h =
-    h ∙ side_decides s l r ∙ ap (λ (x : Live). meets (clean x) (status_of l r).state) (sym e)
+    h ∙ side_decides s l r ∙ ap (λ (x : Option Side). meets (clean x) (status_of l r).state) (sym e)

@@ -11,11 +11,11 @@ ghost use Rattle.pages.specs.Pages.{word_of, row_of, status_of};
 ghost use Rattle.plans.specs.Plans.{counts, others_erased, clean, meets};
 ghost use Rattle.lines.specs.Starts.{start_of, begins_in};
 
-use pages::{Live, Side, State};
+use pages::{Side, State, Status};
 use plans::Request;
 
 // The line of two pages, and whether what has to be blank is erased already.
-#[derive(Clone, Copy)]
+#[derive(Clone, Copy, Debug, PartialEq, Eq)]
 pub struct Start {
     pub state: State,
     pub erased: bool,
@@ -25,43 +25,35 @@ pub struct Start {
 fn counts_erased(request: Request, start: State) -> bool
     ensures { result ≡ counts request start }
 {
-    let line = start.line();
-    if line == 0 {
-        return true;
-    }
-    match request {
-        Request::Save => if line == 1 { true } else { line == 8 },
-        Request::Format => false,
-    }
+    matches!(
+        (request, start),
+        (_, State::S0) | (Request::Save, State::S1 | State::S8)
+    )
 }
 
 // Whether both pages are erased where none is live, else the page that isn't live.
-fn others_erased(live: Live, left: &[u8], right: &[u8]) -> bool
+fn others_erased(live: Option<Side>, left: &[u8], right: &[u8]) -> bool
     ensures { result ≡ others_erased live left.now right.now }
 {
     match live {
-        Live::Nowhere => {
-            if !flash::erased(left) {
-                return false;
-            }
-            flash::erased(right)
-        }
-        Live::On(side) => match side {
-            Side::Left => flash::erased(right),
-            Side::Right => flash::erased(left),
-        },
+        None => flash::erased(left) && flash::erased(right),
+        Some(Side::Left) => flash::erased(right),
+        Some(Side::Right) => flash::erased(left),
     }
 }
 
 // Erased or not, looked for only where it counts.
-fn find_erased(request: Request, start: State, live: Live, left: &[u8], right: &[u8]) -> bool
+fn find_erased(
+    request: Request,
+    start: State,
+    live: Option<Side>,
+    left: &[u8],
+    right: &[u8],
+) -> bool
     ensures { result ≡ (counts request start
         && others_erased live left.now right.now) }
 {
-    if counts_erased(request, start) {
-        return others_erased(live, left, right);
-    }
-    false
+    counts_erased(request, start) && others_erased(live, left, right)
 }
 
 // The line of the pages and, where it counts for the request, whether both pages (at line 0) or the
@@ -69,48 +61,29 @@ fn find_erased(request: Request, start: State, live: Live, left: &[u8], right: &
 pub fn start_of(request: Request, left: &[u8], right: &[u8]) -> Start
     ensures { begins_in result ≡ begins_in (start_of request left.now right.now) }
 {
-    let status = table::status_of(left, right);
-    let state = status.state;
-    let live = status.live;
-    let erased = find_erased(request, state, live, left, right);
+    let Status { state, live } = table::status_of(left, right);
     Start {
-        state: state,
-        erased: erased,
+        state,
+        erased: find_erased(request, state, live, left, right),
     }
 }
 
-// The words of a state's row; of S0, which has none, zeros.
-fn left_word(state: State) -> u32
-    ensures { result ≡ (row_of state).0 }
+// The words of LEFT and RIGHT in a state's row; of S0, which has none, zeros.
+fn row_words(state: State) -> (u32, u32)
+    ensures left { result.0 ≡ (row_of state).0 }
+    ensures right { result.1 ≡ (row_of state).1 }
 {
     match state {
-        State::S0 => 0,
-        State::S1 => 0xFFFF0000,
-        State::S2 => 0xFFFF0000,
-        State::S3 => 0xFFFF0000,
-        State::S5 => 0xFFFF0000,
-        State::S6 => 0xFF000000,
-        State::S7 => 0xFF000000,
-        State::S8 => 0xFFFFFFFF,
-        State::S9 => 0xFFFFFF00,
-        State::S10 => 0xFFFFFF00,
-    }
-}
-
-fn right_word(state: State) -> u32
-    ensures { result ≡ (row_of state).1 }
-{
-    match state {
-        State::S0 => 0,
-        State::S1 => 0xFFFFFFFF,
-        State::S2 => 0xFF00FFFF,
-        State::S3 => 0xFF000000,
-        State::S5 => 0xFFFFFF00,
-        State::S6 => 0xFFFFFF00,
-        State::S7 => 0xFFFF0000,
-        State::S8 => 0xFFFF0000,
-        State::S9 => 0xFFFF0000,
-        State::S10 => 0xFF000000,
+        State::S0 => (0, 0),
+        State::S1 => (0xFFFF0000, 0xFFFFFFFF),
+        State::S2 => (0xFFFF0000, 0xFF00FFFF),
+        State::S3 => (0xFFFF0000, 0xFF000000),
+        State::S5 => (0xFFFF0000, 0xFFFFFF00),
+        State::S6 => (0xFF000000, 0xFFFFFF00),
+        State::S7 => (0xFF000000, 0xFFFF0000),
+        State::S8 => (0xFFFFFFFF, 0xFFFF0000),
+        State::S9 => (0xFFFFFF00, 0xFFFF0000),
+        State::S10 => (0xFFFFFF00, 0xFF000000),
     }
 }
 
@@ -119,10 +92,8 @@ fn has_words(left: &[u8], right: &[u8], state: State) -> bool
     ensures { result ≡ (eqb (word_of left.now) (row_of state).0
         && eqb (word_of right.now) (row_of state).1) }
 {
-    if pages::word(left) != left_word(state) {
-        return false;
-    }
-    pages::word(right) == right_word(state)
+    let (left_word, right_word) = row_words(state);
+    pages::word(left) == left_word && pages::word(right) == right_word
 }
 
 // Whether the pages are at line 0: no row has their words. Every row's RIGHT has Spare FF, so that
@@ -131,14 +102,10 @@ fn has_words(left: &[u8], right: &[u8], state: State) -> bool
 fn is_none(left: &[u8], right: &[u8]) -> bool
     ensures { result ≡ meets S0 (status_of left.now right.now).state }
 {
-    if right.len() < 4 {
+    if right.len() < 4 || right[3] != 255 {
         return true;
     }
-    if right[3] != 255 {
-        return true;
-    }
-    let state = table::status_of(left, right).state;
-    state.line() == 0
+    table::status_of(left, right).state == State::S0
 }
 
 // Whether the pages are at a line. The line is known, so its row's two words say it; only line 0
@@ -146,7 +113,7 @@ fn is_none(left: &[u8], right: &[u8]) -> bool
 pub fn is_at(left: &[u8], right: &[u8], wanted: State) -> bool
     ensures { result ≡ meets wanted (status_of left.now right.now).state }
 {
-    if wanted.line() == 0 {
+    if wanted == State::S0 {
         return is_none(left, right);
     }
     has_words(left, right, wanted)
@@ -154,14 +121,11 @@ pub fn is_at(left: &[u8], right: &[u8], wanted: State) -> bool
 
 // Whether the pages are at the line at which image cells are programmed, from the live side. It is
 // `is_at` of that line with the row known: what nearly every step of a save asks.
-pub fn is_clean(left: &[u8], right: &[u8], live: Live) -> bool
+pub fn is_clean(left: &[u8], right: &[u8], live: Option<Side>) -> bool
     ensures { result ≡ meets (clean live) (status_of left.now right.now).state }
 {
     match live {
-        Live::Nowhere => is_none(left, right),
-        Live::On(side) => match side {
-            Side::Left => has_words(left, right, State::S1),
-            Side::Right => has_words(left, right, State::S8),
-        },
+        None => is_none(left, right),
+        Some(side) => has_words(left, right, side.pick(State::S1, State::S8)),
     }
 }

@@ -2,198 +2,210 @@
 // printed, with its comment. The lines printed are in docs/FORMATS.md.
 #![tactic(auto)]
 
-ghost use Rattle.std.specs.Prelude.{◌≤◌, length};
+ghost use Rattle.std.specs.Prelude.{◌-◌, ◌≡◌, length, IfSome};
+ghost use Rattle.std.specs.Iterator.{at_most};
+ghost use Rattle.asks.specs.Asks.{asks_of, format};
 
 use arguments::Name;
-use asks::Call;
+use asks::{Call, Wrong};
 use digits::Fault;
-use prints::Output;
+use prints::{Escaped, Output};
+use std::fmt;
+use std::fmt::Write;
+
+// How many bytes of a word with a fault are printed.
+const MOST: usize = 40;
+
+// A line of a script: its number, from 1, where it begins, its words, and its comment.
+#[derive(Clone, Copy)]
+pub struct Line<'a> {
+    pub number: u64,
+    pub at: usize,
+    pub words: &'a [u8],
+    pub comment: &'a [u8],
+}
+
+// The lines of a script that are not passed yet: where the next begins, and how many were passed.
+#[derive(Drop)]
+struct Lines<'a> {
+    text: &'a [u8],
+    at: usize,
+    passed: u64,
+}
 
 // How many lines were passed, whether the last of them is a heading, and from which second on it is
 // said how far the run is.
 #[derive(Clone, Copy)]
 pub struct Listing {
-    pub number: u64,
-    pub heading: bool,
-    pub due: u64,
+    number: u64,
+    heading: bool,
+    due: u64,
+}
+
+// ---- lines
+// The comment of a line from its mark on, without the blanks, tabs and ends of a line that it ends with.
+fn comment_in(line: &[u8]) -> &[u8] {
+    let Some(start) = line.iter().position(|byte| *byte == b'#') else {
+        return b"";
+    };
+    let comment = &line[start..];
+    match comment
+        .iter()
+        .rposition(|byte| !matches!(byte, b' ' | b'\t' | b'\r' | b'\n'))
+    {
+        Some(last) => &comment[..=last],
+        None => b"",
+    }
+}
+
+impl<'a> Line<'a> {
+    // The line that begins at a place of a text, with its number.
+    fn new(text: &'a [u8], at: usize, number: u64) -> Line<'a> {
+        let whole = text.get(at..texts::next_line(text, at)).unwrap_or(b"");
+        Line {
+            number,
+            at,
+            words: texts::line_at(text, at),
+            comment: comment_in(whole),
+        }
+    }
+
+    fn has_call(&self) -> bool {
+        !self.words.is_empty()
+    }
+
+    fn is_heading(&self) -> bool {
+        self.words.is_empty() && !self.comment.is_empty()
+    }
+}
+
+impl<'a> Lines<'a> {
+    // All lines of a script.
+    fn new(text: &'a [u8]) -> Lines<'a> {
+        Lines {
+            text,
+            at: 0,
+            passed: 0,
+        }
+    }
+}
+
+impl<'a> Iterator for Lines<'a> {
+    type Item = Line<'a>;
+
+    ghost remaining = { λ lines. at_most (length lines.text.now - lines.at) };
+
+    fn next(&mut self) -> Option<Line<'a>> {
+        if self.text.len() <= self.at {
+            return None;
+        }
+        self.passed = self.passed.wrapping_add(1);
+        let line = Line::new(self.text, self.at, self.passed);
+        self.at = texts::next_line(self.text, self.at);
+        Some(line)
+    }
+}
+
+// How many lines of a script have a call.
+pub fn calls_in(text: &[u8]) -> usize {
+    Lines::new(text).filter(|line| line.has_call()).count()
+}
+
+// The line of a script that begins at a place.
+pub fn line_at(text: &[u8], place: usize) -> Option<Line<'_>>
+    ensures { IfSome result (λ line. line.at ≡ place) }
+{
+    Lines::new(text).find(|line| line.at == place)
+}
+
+// The last line of a script that asks for a format.
+pub fn last_format(text: &[u8]) -> Option<Line<'_>>
+    ensures { IfSome result (λ line. asks_of line.words.now ≡ format) }
+{
+    Lines::new(text)
+        .filter(|line| matches!(asks::parse(line.words), Ok(Some(Call::Format))))
+        .last()
 }
 
 // ---- what is wrong
-// Which of the texts below a fault has: up to 4 with its word between two.
-fn fault_number(fault: Fault) -> usize {
-    match fault {
-        Fault::UnknownWord => 0,
-        Fault::NotNumber => 1,
-        Fault::PastBits => 2,
-        Fault::NotHex => 3,
-        Fault::ExtraWord => 4,
-        Fault::NoNumber => 5,
-        Fault::OddDigits => 6,
-        Fault::TooLong => 7,
+// What is wrong with a script: a word of a line, or that no line has a call.
+#[derive(Clone, Copy)]
+pub enum Error<'a> {
+    Line {
+        script: Name,
+        line: Line<'a>,
+        wrong: Wrong,
+    },
+    NoCall {
+        script: Name,
+    },
+}
+
+impl fmt::Display for Error<'_> {
+    fn fmt<W: fmt::Write>(&self, f: &mut fmt::Formatter<W>) -> fmt::Result {
+        match *self {
+            Error::NoCall { script } => write!(f, "{script}: no call in it"),
+            Error::Line {
+                script,
+                line,
+                wrong,
+            } => {
+                let number = line.number;
+                let word = texts::word(line.words, wrong.word);
+                let word = Escaped(&word[..word.len().min(MOST)]);
+                write!(f, "{script} line {number}: ")?;
+                match wrong.fault {
+                    Fault::UnknownWord => write!(f, "unknown word '{word}'"),
+                    Fault::NotNumber => write!(f, "'{word}' is no number"),
+                    Fault::PastBits => write!(f, "the number {word} is past 32 bits"),
+                    Fault::NotHex => write!(f, "'{word}' is not hexadecimal"),
+                    Fault::ExtraWord => write!(f, "one word too many: '{word}'"),
+                    Fault::NoNumber => write!(f, "a number is missing"),
+                    Fault::OddDigits => write!(f, "odd number of hexadecimal digits"),
+                    Fault::TooLong => write!(f, "more than 4096 bytes"),
+                }
+            }
+        }
     }
 }
 
-fn print_fault(out: &mut Output, fault: Fault, word: &[u8]) {
-    let number = fault_number(fault);
-    if 4 < number {
-        prints::item(
-            out,
-            b"|||||a number is missing\n|odd number of hexadecimal digits\n|more than 4096 bytes\n",
-            number,
-        );
+// Whether each line of a script is right and one of them has a call.
+pub fn check(script: Name, text: &[u8]) -> Result<(), Error<'_>> {
+    let mut has_calls = false;
+    for line in Lines::new(text) {
+        match asks::parse(line.words) {
+            Ok(call) => has_calls |= call.is_some(),
+            Err(wrong) => {
+                return Err(Error::Line {
+                    script,
+                    line,
+                    wrong,
+                });
+            }
+        }
+    }
+    if has_calls {
+        Ok(())
     } else {
-        prints::item(
-            out,
-            b"unknown word '|'|the number |'|one word too many: '",
-            number,
-        );
-        prints::escaped(out, word, 40);
-        prints::item(
-            out,
-            b"'\n|' is no number\n| is past 32 bits\n|' is not hexadecimal\n|'\n",
-            number,
-        );
+        Err(Error::NoCall { script })
     }
-}
-
-// Whether a line is right; where it isn't, prints its fault.
-fn is_right(out: &mut Output, name: Name, number: u64, line: &[u8]) -> bool {
-    match asks::parse(line) {
-        Call::Wrong(fault, place) => {
-            arguments::fail(out, name, b" line ");
-            prints::filled(out, b"#: ", &[number]);
-            print_fault(out, fault, texts::word(line, place));
-            false
-        }
-        _ => true,
-    }
-}
-
-// Whether each line of a script is right and one of them has a call; where it isn't so, prints the
-// line that says what is wrong first.
-pub fn check(out: &mut Output, name: Name, text: &[u8]) -> bool {
-    let mut at: usize = 0;
-    let mut number: u64 = 0;
-    let mut calls = false;
-    while at < text.len() {
-        number += 1;
-        let line = texts::line_at(text, at);
-        if !is_right(out, name, number, line) {
-            return false;
-        }
-        calls = calls | (0 < line.len());
-        at = texts::next_line(text, at);
-    }
-    if !calls {
-        arguments::fail(out, name, b": no call in it\n");
-    }
-    calls
-}
-
-// ---- comments
-fn is_space(b: u8) -> bool {
-    match b {
-        b' ' | b'\t' | b'\r' | b'\n' => true,
-        _ => false,
-    }
-}
-
-// Where a line ends without the blanks, tabs and ends of a line that it ends with, from a place on.
-fn end_from(line: &[u8], start: usize) -> usize
-    requires { start ≤ length line.now }
-    ensures { (start ≤ result) × (result ≤ length line.now) }
-{
-    let mut end = line.len();
-    while start < end {
-        if !is_space(line[end - 1]) {
-            return end;
-        }
-        end -= 1;
-    }
-    end
-}
-
-// Where the mark of a line's comment is, the line's end where it has none.
-fn mark_in(line: &[u8]) -> usize
-    ensures { result ≤ length line.now }
-{
-    for i in 0..line.len() {
-        if line[i] == b'#' {
-            return i;
-        }
-    }
-    line.len()
-}
-
-// The comment of a line from its mark on, nothing where it has none.
-fn comment_in(line: &[u8]) -> &[u8] {
-    let start = mark_in(line);
-    let end = end_from(line, start);
-    &line[start..end]
-}
-
-// The comment of the line that begins at a place of a text.
-fn comment_at(text: &[u8], at: usize) -> &[u8] {
-    let end = texts::next_line(text, at);
-    if text.len() < end {
-        return &text[0..0];
-    }
-    if end < at {
-        return &text[0..0];
-    }
-    comment_in(&text[at..end])
 }
 
 // ---- what is printed
-fn blank_for_tab(byte: u8) -> u8 {
-    if byte == b'\t' { b' ' } else { byte }
-}
-
-fn print_bytes(out: &mut Output, line: &[u8]) {
-    for i in 0..line.len() {
-        prints::escaped_byte(out, blank_for_tab(line[i]));
+impl fmt::Display for Line<'_> {
+    // The call of a line with its number, tabs as blanks, and its comment, if it has one.
+    fn fmt<W: fmt::Write>(&self, f: &mut fmt::Formatter<W>) -> fmt::Result {
+        let number = self.number;
+        write!(f, "script line {number}: ")?;
+        for byte in self.words {
+            let shown = if *byte == b'\t' { b' ' } else { *byte };
+            write!(f, "{}", Escaped(&[shown]))?;
+        }
+        if !self.comment.is_empty() {
+            write!(f, "  {}", Escaped(self.comment))?;
+        }
+        Ok(())
     }
-}
-
-// Prints the comment of a call, if it has one.
-fn print_comment(out: &mut Output, comment: &[u8]) {
-    if 0 < comment.len() {
-        prints::text(out, b"  ");
-    }
-    print_whole(out, comment);
-}
-
-// Prints the call of a line with its number, tabs as blanks, and its comment.
-fn print_call(out: &mut Output, number: u64, line: &[u8], comment: &[u8]) {
-    prints::filled(out, b"script line #: ", &[number]);
-    print_bytes(out, line);
-    print_comment(out, comment);
-}
-
-fn print_whole(out: &mut Output, comment: &[u8]) {
-    prints::escaped(out, comment, comment.len());
-    prints::text(out, b"\n");
-}
-
-// Prints a comment as a heading, after an empty line unless it goes on with one.
-fn print_heading(out: &mut Output, comment: &[u8], goes_on: bool) {
-    if !goes_on {
-        prints::text(out, b"\n");
-    }
-    print_whole(out, comment);
-}
-
-// Prints a line of a script: a call, or a heading. Says whether it is a heading.
-fn print_any(out: &mut Output, number: u64, line: &[u8], comment: &[u8], goes_on: bool) -> bool {
-    if 0 < line.len() {
-        print_call(out, number, line, comment);
-        return false;
-    }
-    if comment.len() == 0 {
-        return false;
-    }
-    print_heading(out, comment, goes_on);
-    true
 }
 
 impl Listing {
@@ -204,85 +216,29 @@ impl Listing {
             due: 2,
         }
     }
-}
 
-// Counts a line of a script unless steps of the one before it are left, and says how far a long run
-// is.
-pub fn count(rt: HostRuntime, listing: Listing, left: u32) -> Listing {
-    if 0 < left {
-        return listing;
+    // Counts a line of a script, and says how far a long run is.
+    pub fn count(&mut self, rt: HostRuntime) {
+        self.number = self.number.wrapping_add(1);
+        self.due = prints::progress(rt, self.number, self.due);
     }
-    let number = std::num::wrapping_add_u64(listing.number, 1);
-    Listing {
-        number: number,
-        heading: listing.heading,
-        due: prints::progress(rt, number, listing.due),
-    }
-}
 
-// Prints and counts the line of a script at a place.
-pub fn print_next(out: &mut Output, listing: Listing, text: &[u8], at: usize) -> Listing {
-    let next = count(out.runtime(), listing, 0);
-    let heading = print_any(
-        out,
-        next.number,
-        texts::line_at(text, at),
-        comment_at(text, at),
-        listing.heading,
-    );
-    Listing {
-        number: next.number,
-        heading: heading,
-        due: next.due,
-    }
-}
-
-// How many lines of a script have a call.
-pub fn calls_in(text: &[u8]) -> u64 {
-    let mut at: usize = 0;
-    let mut calls: u64 = 0;
-    while at < text.len() {
-        if 0 < texts::line_at(text, at).len() {
-            calls = std::num::wrapping_add_u64(calls, 1);
+    // Prints and counts the line of a script at a place: a call; or a comment as a heading, after an empty
+    // line unless it goes on with one.
+    pub fn print_next(&mut self, out: &mut Output, text: &[u8], at: usize) -> fmt::Result {
+        self.count(out.runtime());
+        let line = Line::new(text, at, self.number);
+        let goes_on = self.heading;
+        self.heading = line.is_heading();
+        if line.has_call() {
+            return writeln!(out, "{line}");
         }
-        at = texts::next_line(text, at);
-    }
-    calls
-}
-
-// Prints the line that begins at a place with its number.
-pub fn print_line_at(out: &mut Output, text: &[u8], place: usize) {
-    let mut at: usize = 0;
-    let mut number: u64 = 1;
-    while at < text.len() {
-        if at == place {
-            print_call(out, number, texts::line_at(text, at), comment_at(text, at));
-            return;
+        if !self.heading {
+            return Ok(());
         }
-        number = std::num::wrapping_add_u64(number, 1);
-        at = texts::next_line(text, at);
+        if !goes_on {
+            writeln!(out)?;
+        }
+        writeln!(out, "{}", Escaped(line.comment))
     }
-}
-
-fn is_format(line: &[u8]) -> bool {
-    match asks::parse(line) {
-        Call::Format => true,
-        _ => false,
-    }
-}
-
-// A place, or the one before it.
-fn place_if(is: bool, at: usize, before: usize) -> usize {
-    if is { at } else { before }
-}
-
-// Where the last line of a script is that asks for a format.
-pub fn last_format(text: &[u8]) -> usize {
-    let mut at: usize = 0;
-    let mut last: usize = 0;
-    while at < text.len() {
-        last = place_if(is_format(texts::line_at(text, at)), at, last);
-        at = texts::next_line(text, at);
-    }
-    last
 }

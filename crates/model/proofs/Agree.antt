@@ -1,11 +1,11 @@
 -- What the board and the book have in common at every moment, and that each call keeps it and is answered alike.
 -- In order: a walk in hand and its job; the board and the book; reads; beginning; stepping; each call.
 -- Assumes nothing.
+use Rattle.std.specs.Prelude.{Option, Some, None}
 use Prim.Native.Nat.{ℕ, suc, ◌+◌, ◌-◌, ◌<◌, ◌≤◌}
 use mathlib.Core.Path.{◌≡◌, refl, sym, ap, ap₂, subst, ◌∙◌}
 use mathlib.Core.Bool.{Bool, true, false, cond, not, ◌||◌}
 use mathlib.Core.List.{List, [], ◌∷◌}
-use mathlib.Core.Option.{Option, none, some}
 use native.Mathlib.Numerals.{add-one, lt_of_le_of_ne}
 use native.Mathlib.Omega.{arith}
 use lib.Dec.{eqb}
@@ -15,8 +15,6 @@ use borrow.Author.Tests.{eqb-true, eqb-false, eq-eqb, ne_eqb, le-ltb}
 use Rattle.flash.specs.Flash.{Bytes}
 use Rattle.pages.specs.declared.Side.{Side}
 use Rattle.pages.specs.declared.Side.TheVariants.{Left, Right}
-use Rattle.pages.specs.declared.Live.{Live}
-use Rattle.pages.specs.declared.Live.TheVariants.{Nowhere, On}
 use Rattle.pages.specs.declared.PageOffset.{PageOffset}
 use Rattle.pages.specs.Pages.{on_side, live_of, status_of}
 use Rattle.pages.specs.Offsets.{image_of, image_size}
@@ -108,10 +106,10 @@ pub record Walking (p : ℕ) (current : MaybeImage) (l r : List ℕ) (h : Hand) 
   pub good : Good current then (drop j.made list) l r
 
 abbrev pub Hands : ℕ → MaybeImage → List ℕ → List ℕ → Option Hand → Option Job → Type 0
-Hands p current l r none none = Unit {0}
-Hands p current l r none (some j) = ⊥
-Hands p current l r (some h) none = ⊥
-Hands p current l r (some h) (some j) = Walking p current l r h j
+Hands p current l r None None = Unit {0}
+Hands p current l r None (Some j) = ⊥
+Hands p current l r (Some h) None = ⊥
+Hands p current l r (Some h) (Some j) = Walking p current l r h j
 
 -- ---- the board and the book
 pub record Agree (b : Board) (k : Book) : Type 0 where
@@ -124,9 +122,9 @@ pub record Agree (b : Board) (k : Book) : Type 0 where
   pub hands : Hands k.page k.image b.left b.right b.hand k.job
 
 -- ---- reads
-live_number_lem : (v : Live) (l r : List ℕ) → live_number v ≡ image_number (image_on v l r)
-live_number_lem Nowhere l r = refl
-live_number_lem (On s) l r = refl
+live_number_lem : (v : Option Side) (l r : List ℕ) → live_number v ≡ image_number (image_on v l r)
+live_number_lem None l r = refl
+live_number_lem (Some s) l r = refl
 
 pub same_number : (b : Board) (k : Book) (o : PageOffset) (n : ℕ) → Agree b k → read_number b.left
     b.right o n ≡ read_book k o n
@@ -137,10 +135,10 @@ same_number b k o n a =
     λ i. request_number (a.left i) (a.right i) o n (rest i)
 
 -- a legal read's bytes, counted from the page and from the image
-same_bytes : (v : Live) (l r : List ℕ) (o : PageOffset) (n : ℕ) → 4 ≤ o.0
+same_bytes : (v : Option Side) (l r : List ℕ) (o : PageOffset) (n : ℕ) → 4 ≤ o.0
     → take n (drop o.0 (live_page v l r)) ≡ asked_bytes (image_on v l r) o n
-same_bytes Nowhere l r o n h = ap (take n) (drop-nil o.0) ∙ take-nil n
-same_bytes (On s) l r o n h =
+same_bytes None l r o n h = ap (take n) (drop-nil o.0) ∙ take-nil n
+same_bytes (Some s) l r o n h =
     let e : o.0 ≡ 4 + (o.0 - 4) = omega arith in
     ap (take n)
     (ap (λ (k : ℕ). drop k (on_side s l r)) e ∙ sym (drop-drop (o.0 - 4) 4 (on_side s l r))
@@ -192,29 +190,29 @@ same_output b k o out a =
 pub source_live : (l r : List ℕ) → source (live_of (status_of l r).state) (live_image l r) ≡ live_image l r
 unfolding live_image
 source_live l r =
-    ap (λ (v : Live). source v (image_on (status_of l r).live l r)) (sym (status_live l r))
+    ap (λ (v : Option Side). source v (image_on (status_of l r).live l r)) (sym (status_live l r))
     ∙ go (status_of l r).live
   where
-    go : (v : Live) → source v (image_on v l r) ≡ image_on v l r
-    go Nowhere = refl
-    go (On s) = refl
+    go : (v : Option Side) → source v (image_on v l r) ≡ image_on v l r
+    go None = refl
+    go (Some s) = refl
 
 -- the image that data is laid into is bytes
 side_bytes : (s : Side) (l r : List ℕ) → Bytes l → Bytes r → Bytes (drop 4 (on_side s l r))
 side_bytes Left l r h k = bytes_drop 4 l h
 side_bytes Right l r h k = bytes_drop 4 r k
 
-base_bytes : (v u : Live) (l r : List ℕ) (n : ℕ) → Bytes l → Bytes r → Bytes (or_blank n (source v (image_on u l r)))
-base_bytes Nowhere u l r n h k = bytes_blank n
-base_bytes (On s) Nowhere l r n h k = bytes_blank n
-base_bytes (On s) (On t) l r n h k = side_bytes t l r h k
+base_bytes : (v u : Option Side) (l r : List ℕ) (n : ℕ) → Bytes l → Bytes r → Bytes (or_blank n (source v (image_on u l r)))
+base_bytes None u l r n h k = bytes_blank n
+base_bytes (Some s) None l r n h k = bytes_blank n
+base_bytes (Some s) (Some t) l r n h k = side_bytes t l r h k
 
 -- and as long as the pages are after the management bytes
 pub record Based (p : ℕ) (image : List ℕ) : Type 0 where
   pub bytes : Bytes image
   pub size : length image ≡ image_size p
 
-pub based : (v : Live) (l r : List ℕ) (p : ℕ) → Bytes l → Bytes r → length l ≡ p → length r ≡ p
+pub based : (v : Option Side) (l r : List ℕ) (p : ℕ) → Bytes l → Bytes r → length l ≡ p → length r ≡ p
     → Based p (or_blank (image_size p) (source v (live_image l r)))
 unfolding live_image
 based v l r p h k e f =
@@ -224,12 +222,12 @@ based v l r p h k e f =
     }
 
 -- a list made from the new image is the one made from the old one
-again : (v : Live) (n : ℕ) (o : PageOffset) (d : List ℕ) (image : MaybeImage) → 4 ≤ o.0
+again : (v : Option Side) (n : ℕ) (o : PageOffset) (d : List ℕ) (image : MaybeImage) → 4 ≤ o.0
     → o.0 + length d ≤ 4 + length (or_blank n (source v image))
-    → laid_in (or_blank n (source v (some (laid_in (or_blank n (source v image)) o d)))) o d
+    → laid_in (or_blank n (source v (Some (laid_in (or_blank n (source v image)) o d)))) o d
     ≡ laid_in (or_blank n (source v image)) o d
-again Nowhere n o d image h k = refl
-again (On s) n o d image h k = laid_twice (or_blank n image) o d h k
+again None n o d image h k = refl
+again (Some s) n o d image h k = laid_twice (or_blank n image) o d h k
 
 numbers_right : (w : Walk) (p n : ℕ) → request_number p p w.offset w.len 0 ≡ 0 → w.page ≡ p → w.len ≡ n
     → wrong_format w.request w.offset w.len ≡ false → wrong_numbers w p p n ≡ false
@@ -247,7 +245,7 @@ pub record Fits (l r : List ℕ) (p : ℕ) (o : PageOffset) (d base : List ℕ) 
   pub fit : o.0 + length d ≤ 4 + length base
   pub sized : Sized l r (laid_in base o d)
 
-pub new_fits : (v : Live) (l r : List ℕ) (p : ℕ) (o : PageOffset) (d : List ℕ) → Bytes l → Bytes r → Bytes d
+pub new_fits : (v : Option Side) (l r : List ℕ) (p : ℕ) (o : PageOffset) (d : List ℕ) → Bytes l → Bytes r → Bytes d
     → length l ≡ p → length r ≡ p → Legal p p o (length d)
     → Fits l r p o d (or_blank (image_size p) (source v (live_image l r)))
 new_fits v l r p o d bl br bd el er h =
@@ -288,7 +286,7 @@ begun_save l r p o d bl br bd el er z =
     λ i. ap (λ (k : ℕ). plan Save st w.erased (new_image v k o d i)) el in
     record {
       list = list;
-      then = some new;
+      then = Some new;
       asks = refl;
       held = refl;
       numbers = numbers_right w p (length d) z el refl refl;
@@ -301,10 +299,10 @@ begun_save l r p o d bl br bd el er z =
           ∙ ap (λ (x : List Entry). eqb (k + 1) (commit_place x)) (sym (from (live_image l r)));
       now_list = from (live_image l r);
       then_list =
-          from (some new)
+          from (Some new)
           ∙ ap (plan Save st w.erased) (again v (image_size p) o d (live_image l r) h.in_image f.fit);
-      now_effect = ap (λ (x : List ℕ). some (laid_in x o d)) (sym same);
-      then_effect = ap some (laid_twice base o d h.in_image f.fit);
+      now_effect = ap (λ (x : List ℕ). Some (laid_in x o d)) (sym same);
+      then_effect = ap Some (laid_twice base o d h.in_image f.fit);
       good = good_save l r new st f.sized refl;
     }
 
@@ -315,7 +313,7 @@ pub begun_format : (l r : List ℕ) (p : ℕ) → Bytes l → Bytes r → length
 begun_format l r p bl br el er h =
     let st = (status_of l r).state in
     let w = first_walk Format l r (record { 0 = 4 }) 0 in
-    let none-given : request_number p p (record { 0 = 4 }) 0 0 ≡ 0 =
+    let None-given : request_number p p (record { 0 = 4 }) 0 0 ≡ 0 =
     legal_none p p (record { 0 = 4 }) 0 0
     (record {
       same = refl;
@@ -330,10 +328,10 @@ begun_format l r p bl br el er h =
     }) in
     record {
       list = list_for format l r;
-      then = none;
+      then = None;
       asks = refl;
       held = refl;
-      numbers = numbers_right w p 0 none-given el refl refl;
+      numbers = numbers_right w p 0 None-given el refl refl;
       place = refl;
       within = omega arith;
       total = refl;
@@ -362,7 +360,7 @@ take_up b k asked w list m n a e f = go (eqb m 0) (eqb n 0) refl refl
     go : (s t : Bool) → eqb m 0 ≡ s → eqb n 0 ≡ t
         → Alike (after_begin b (data_of asked) (cond s (W.begun w) (W.refused m)))
         (cond t
-        (entered C.begun (record { page = k.page; image = k.image; job = some (job_of asked list) }))
+        (entered C.begun (record { page = k.page; image = k.image; job = Some (job_of asked list) }))
         (entered (C.number n) k))
     go true true p q = (
       refl,
@@ -478,8 +476,8 @@ alike_by : (t t' : Turn) (e e' : Entered) → t ≡ t' → e ≡ e' → Alike t'
 alike_by t t' e e' p q g = subst (λ (u : Turn). Alike u e) (sym p) (subst (Alike t') (sym q) g)
 
 -- a step that is refused, or that finds the walk ended, changes neither the board nor the book
-pub unchanged : (b : Board) (k : Book) (h : Hand) → b.hand ≡ some h → Agree b k
-    → Agree (record { left = b.left; right = b.right; hand = some h }) k
+pub unchanged : (b : Board) (k : Book) (h : Hand) → b.hand ≡ Some h → Agree b k
+    → Agree (record { left = b.left; right = b.right; hand = Some h }) k
 unchanged b k h e a = subst (λ (q : Option Hand). Agree (record { left = b.left; right = b.right; hand = q }) k) e a
 
 -- a made step: the image that the book has is the one that the pages show
@@ -492,7 +490,7 @@ made_agree : (b : Board) (k : Book) (h : Hand) (j : Job) (x : Entry) → Agree b
     (record {
       left = (tried x.step b.left b.right).left;
       right = (tried x.step b.left b.right).right;
-      hand = some (record { walk = advanced h.walk; held = h.held });
+      hand = Some (record { walk = advanced h.walk; held = h.held });
     })
     (one_more k j)
 unfolding wrong_numbers
@@ -546,7 +544,7 @@ made_agree b k h j x a g lt e later =
 -- the step on the board, with the held data, and the step in the book, by their tests
 pub held_step : (b : Board) (k : Book) (d : List ℕ) (h : Hand) (j : Job) → Agree b k
     → (g : Walking k.page k.image b.left b.right h j) → eqb (length d) (length h.held) ≡ true
-    → step_hand b (some h) d ≡ after_step h.held (stepped h.walk g.list b.left b.right)
+    → step_hand b (Some h) d ≡ after_step h.held (stepped h.walk g.list b.left b.right)
 held_step b k d h j a g p =
     let w = h.walk in
     let l = b.left in
@@ -559,7 +557,7 @@ held_step b k d h j a g p =
 
 pub book_step : (k : Book) (j : Job) (d held : List ℕ) (s t : Bool) → held ≡ data_of j.asked
     → eqb (length d) (length held) ≡ s → eqb j.total j.made ≡ t
-    → step_book k (some j) d
+    → step_book k (Some j) d
     ≡ cond (not s) (entered (C.number 6) k) (cond t (entered C.ended k) (entered C.made (one_more k j)))
 book_step k j d held s t e p q =
     let o : eqb (length d) (length (data_of j.asked)) ≡ s =
@@ -569,7 +567,7 @@ book_step k j d held s t e p q =
 -- data of another length leaves the walk in hand, and so does a step of a walk that has ended
 pub another_length : (b : Board) (k : Book) (d : List ℕ) (h : Hand) (j : Job)
     → (g : Walking k.page k.image b.left b.right h j) → eqb (length d) (length h.held) ≡ false
-    → step_hand b (some h) d ≡ after_step h.held (kept (W.number 6) h.walk b.left b.right)
+    → step_hand b (Some h) d ≡ after_step h.held (kept (W.number 6) h.walk b.left b.right)
 another_length b k d h j g p =
     let w = h.walk in
     let l = b.left in
@@ -583,25 +581,25 @@ another_length b k d h j g p =
 pub all_made : (b : Board) (k : Book) (d : List ℕ) (h : Hand) (j : Job) → Agree b k
     → (g : Walking k.page k.image b.left b.right h j) → eqb (length d) (length h.held) ≡ true
     → j.total ≡ j.made
-    → step_hand b (some h) d ≡ after_step h.held (kept W.ended h.walk b.left b.right)
+    → step_hand b (Some h) d ≡ after_step h.held (kept W.ended h.walk b.left b.right)
 all_made b k d h j a g p e =
     held_step b k d h j a g p
     ∙ ap (after_step h.held)
     (step_ended h.walk g.list b.left b.right (sym g.total ∙ e ∙ sym g.place))
 
-follow_walk : (b : Board) (k : Book) (d : List ℕ) (h : Hand) (j : Job) → Agree b k → b.hand ≡ some h
-    → Walking k.page k.image b.left b.right h j → Alike (step_hand b (some h) d) (step_book k (some j) d)
+follow_walk : (b : Board) (k : Book) (d : List ℕ) (h : Hand) (j : Job) → Agree b k → b.hand ≡ Some h
+    → Walking k.page k.image b.left b.right h j → Alike (step_hand b (Some h) d) (step_book k (Some j) d)
 follow_walk b k d h j a eh g = go (eqb (length d) (length h.held)) (eqb j.total j.made) refl refl
   where
     go : (s t : Bool) → eqb (length d) (length h.held) ≡ s → eqb j.total j.made ≡ t
-        → Alike (step_hand b (some h) d) (step_book k (some j) d)
+        → Alike (step_hand b (Some h) d) (step_book k (Some j) d)
     go false t p q =
-        alike_by (step_hand b (some h) d) (after_step h.held (kept (W.number 6) h.walk b.left b.right))
-        (step_book k (some j) d) (entered (C.number 6) k) (another_length b k d h j g p)
+        alike_by (step_hand b (Some h) d) (after_step h.held (kept (W.number 6) h.walk b.left b.right))
+        (step_book k (Some j) d) (entered (C.number 6) k) (another_length b k d h j g p)
         (book_step k j d h.held false t g.held p q) (refl, unchanged b k h eh a)
     go true true p q =
-        alike_by (step_hand b (some h) d) (after_step h.held (kept W.ended h.walk b.left b.right))
-        (step_book k (some j) d) (entered C.ended k)
+        alike_by (step_hand b (Some h) d) (after_step h.held (kept W.ended h.walk b.left b.right))
+        (step_book k (Some j) d) (entered C.ended k)
         (all_made b k d h j a g p (eqb-true j.total j.made q))
         (book_step k j d h.held true true g.held p q) (refl, unchanged b k h eh a)
     go true false p q =
@@ -618,7 +616,7 @@ follow_walk b k d h j a eh g = go (eqb (length d) (length h.held)) (eqb j.total 
         let place : h.walk.place ≡ j.made = g.place in
         let at : get_or g.list h.walk.place nothing ≡ x =
         ap (λ (n : ℕ). get_or g.list n nothing) place in
-        alike_by (step_hand b (some h) d)
+        alike_by (step_hand b (Some h) d)
         (after_step h.held
         (record {
           said = W.made;
@@ -626,7 +624,7 @@ follow_walk b k d h j a eh g = go (eqb (length d) (length h.held)) (eqb j.total 
           left = (tried x.step l r).left;
           right = (tried x.step l r).right;
         }))
-        (step_book k (some j) d) (entered C.made (one_more k j))
+        (step_book k (Some j) d) (entered C.made (one_more k j))
         (held_step b k d h j a g p
         ∙ ap (after_step h.held) (step_made h.walk g.list l r x (omega arith) at good.1 good.2))
         (book_step k j d h.held true false g.held p q)
@@ -638,10 +636,10 @@ follow_step b k d a = go b.hand k.job refl a.hands
   where
     go : (hand : Option Hand) (job : Option Job) → b.hand ≡ hand
         → Hands k.page k.image b.left b.right hand job → Alike (step_hand b hand d) (step_book k job d)
-    go none none e w = (refl, a)
-    go none (some j) e w = absurd w
-    go (some h) none e w = absurd w
-    go (some h) (some j) e w = follow_walk b k d h j a e w
+    go None None e w = (refl, a)
+    go None (Some j) e w = absurd w
+    go (Some h) None e w = absurd w
+    go (Some h) (Some j) e w = follow_walk b k d h j a e w
 
 -- ---- each call is answered alike, and keeps what the board and the book have in common
 pub follow : (b : Board) (k : Book) (c : Call) → ByteCall c → Agree b k → Follows b k c

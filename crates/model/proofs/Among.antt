@@ -2,11 +2,11 @@
 -- once for each step that is left, then `ended`, and its last step leaves the pages that its list leaves.
 -- In order: what a walk's steps lead to; one call; a sequence of calls.
 -- Assumes nothing.
+use Rattle.std.specs.Prelude.{Option, Some}
 use Prim.Native.Nat.{ℕ, suc, ◌+◌, ◌-◌, ◌<◌, ◌≤◌}
 use mathlib.Core.Path.{◌≡◌, refl, sym, ap, ap₂, subst, ◌∙◌}
 use mathlib.Core.Bool.{Bool, true, false, cond}
 use mathlib.Core.List.{List, [], ◌∷◌}
-use mathlib.Core.Option.{Option, some}
 use native.Mathlib.Numerals.{lt_of_le_of_ne}
 use native.Mathlib.Omega.{arith}
 use lib.Dec.{eqb}
@@ -46,10 +46,10 @@ use Rattle.model.proofs.Decided.{same_list}
 
 -- ---- what the steps of the walk in hand lead to
 -- the walk of an agreeing board, and its job
-pub in_hand : (b : Board) (k : Book) (h : Hand) (j : Job) → Agree b k → b.hand ≡ some h → k.job ≡ some j
+pub in_hand : (b : Board) (k : Book) (h : Hand) (j : Job) → Agree b k → b.hand ≡ Some h → k.job ≡ Some j
     → Walking k.page k.image b.left b.right h j
 in_hand b k h j a e f =
-    subst (λ (q : Option Job). Hands k.page k.image b.left b.right (some h) q) f
+    subst (λ (q : Option Job). Hands k.page k.image b.left b.right (Some h) q) f
     (subst (λ (q : Option Hand). Hands k.page k.image b.left b.right q k.job) e a.hands)
 
 -- the steps of its list that aren't made yet, all made on the pages, leave these pages
@@ -60,8 +60,8 @@ Landing b h end =
 -- a job with a walk in hand, wherever the board came from
 pub record Under (b : Board) (k : Book) (j : Job) (end : Tried) : Type 0 where
   pub hand : Hand
-  pub held : b.hand ≡ some hand
-  pub job : k.job ≡ some j
+  pub held : b.hand ≡ Some hand
+  pub job : k.job ≡ Some j
   pub lands : Landing b hand end
 
 -- ---- one call
@@ -73,7 +73,7 @@ pub record Steps (b : Board) (k : Book) (d : List ℕ) (h : Hand) (j : Job) (lis
       ≡ (record {
         left = (tried (get_or list j.made nothing).step b.left b.right).left;
         right = (tried (get_or list j.made nothing).step b.left b.right).right;
-        hand = some (record { walk = advanced h.walk; held = h.held });
+        hand = Some (record { walk = advanced h.walk; held = h.held });
       })
 
 right_length : (b : Board) (k : Book) (d : List ℕ) (h : Hand) (j : Job)
@@ -82,7 +82,7 @@ right_length : (b : Board) (k : Book) (d : List ℕ) (h : Hand) (j : Job)
 right_length b k d h j g n =
     eq-eqb (length d) (length h.held) (n ∙ ap length (sym g.held))
 
-makes_step : (b : Board) (k : Book) (d : List ℕ) (h : Hand) (j : Job) → Agree b k → b.hand ≡ some h → k.job ≡ some j
+makes_step : (b : Board) (k : Book) (d : List ℕ) (h : Hand) (j : Job) → Agree b k → b.hand ≡ Some h → k.job ≡ Some j
     → (g : Walking k.page k.image b.left b.right h j) → length d ≡ length (data_of j.asked)
     → j.made < j.total → Steps b k d h j g.list
 unfolding turn entry
@@ -122,7 +122,7 @@ image_or : (P : MaybeImage → Type 0) (t : Bool) (a b : MaybeImage) → P a →
 image_or P true a b p q = q
 image_or P false a b p q = p
 
-lands_on : (b : Board) (k : Book) (d : List ℕ) (h : Hand) (j : Job) (end : Tried) → Agree b k → k.job ≡ some j
+lands_on : (b : Board) (k : Book) (d : List ℕ) (h : Hand) (j : Job) (end : Tried) → Agree b k → k.job ≡ Some j
     → (g : Walking k.page k.image b.left b.right h j) → j.made < j.total
     → Steps b k d h j g.list → Landing b h end
     → Agree (turn b (C.step d)).board (entry k (B.step d)).book
@@ -135,7 +135,7 @@ lands_on b k d h j end a f g lt s landing a' =
     let l' = (tried x.step l r).left in
     let r' = (tried x.step l r).right in
     let h' : Hand = record { walk = advanced h.walk; held = h.held } in
-    let b' : Board = record { left = l'; right = r'; hand = some h' } in
+    let b' : Board = record { left = l'; right = r'; hand = Some h' } in
     let total : j.total ≡ length list = g.total in
     let place : h.walk.place ≡ j.made = g.place in
     let shows : live_image l' r' ≡ (one_more k j).image =
@@ -188,18 +188,18 @@ book_refused k n asked list = go (eqb n 0)
   where
     go : (t : Bool)
         → ((cond t
-        (entered C.begun (record { page = k.page; image = k.image; job = some (B.job_of asked list) }))
+        (entered C.begun (record { page = k.page; image = k.image; job = Some (B.job_of asked list) }))
         (entered (C.number n) k)).answer ≡ C.begun → ⊥)
         → (cond t
-        (entered C.begun (record { page = k.page; image = k.image; job = some (B.job_of asked list) }))
+        (entered C.begun (record { page = k.page; image = k.image; job = Some (B.job_of asked list) }))
         (entered (C.number n) k)).book
         ≡ k
     go true h = absurd (h refl)
     go false h = refl
 
 -- a step that is refused, or that finds the walk ended, leaves the board as it is
-same_board : (b : Board) (h : Hand) (d : List ℕ) (said : W.Said) → b.hand ≡ some h
-    → step_hand b (some h) d ≡ after_step h.held (kept said h.walk b.left b.right)
+same_board : (b : Board) (h : Hand) (d : List ℕ) (said : W.Said) → b.hand ≡ Some h
+    → step_hand b (Some h) d ≡ after_step h.held (kept said h.walk b.left b.right)
     → (turn b (C.step d)).board ≡ b
 unfolding turn
 same_board b h d said e q =

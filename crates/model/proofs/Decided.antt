@@ -1,11 +1,11 @@
 -- What is decided on the board is what the book commits: the same requests, in the same order.
 -- In order: a step; a beginning; a call; a sequence.
 -- Assumes nothing.
+use Rattle.std.specs.Prelude.{Option, Some, None}
 use Prim.Native.Nat.{ℕ, ◌+◌, ◌<◌, ◌≤◌}
 use mathlib.Core.Path.{◌≡◌, refl, sym, ap, ap₂, ◌∙◌}
 use mathlib.Core.Bool.{Bool, true, false, cond, not, ◌&&◌}
 use mathlib.Core.List.{List, [], ◌∷◌, ◌++◌}
-use mathlib.Core.Option.{Option, none, some}
 use native.Mathlib.Numerals.{lt_of_le_of_ne}
 use native.Mathlib.Omega.{arith}
 use lib.Dec.{eqb}
@@ -85,7 +85,7 @@ and_right_same false b c h = refl
 
 step_same : (b : Board) (k : Book) (d : List ℕ) (h : Hand) (j : Job) → Agree b k
     → Walking k.page k.image b.left b.right h j
-    → (turn b (C.step d)).answer ≡ (step_book k (some j) d).answer → step_decides b (some h) d ≡ step_commits (some j) d
+    → (turn b (C.step d)).answer ≡ (step_book k (Some j) d).answer → step_decides b (Some h) d ≡ step_commits (Some j) d
 step_same b k d h j a g e =
     let s = eqb (length d) (length (data_of j.asked)) in
     let t = eqb j.total j.made in
@@ -127,7 +127,7 @@ begin_same b k c asked n e =
         → cond
         (is_begun
         (cond t
-        (B.entered C.begun (record { page = k.page; image = k.image; job = some (job_of asked list) }))
+        (B.entered C.begun (record { page = k.page; image = k.image; job = Some (job_of asked list) }))
         (B.entered (C.number n) k)).answer
         && eqb (length list) 0)
         (asked ∷ []) []
@@ -146,10 +146,10 @@ same_decided b k (C.step d) h a = go b.hand k.job refl refl a.hands
   where
     go : (hand : Option Hand) (job : Option Job) → b.hand ≡ hand → k.job ≡ job
         → Hands k.page k.image b.left b.right hand job → step_decides b hand d ≡ step_commits job d
-    go none none e f w = refl
-    go none (some j) e f w = absurd w
-    go (some x) none e f w = absurd w
-    go (some x) (some j) e f w =
+    go None None e f w = refl
+    go None (Some j) e f w = absurd w
+    go (Some x) None e f w = absurd w
+    go (Some x) (Some j) e f w =
         step_same b k d x j a w
         ((follow b k (C.step d) tt a).0 ∙ ap (λ (q : Option Job). (step_book k q d).answer) f)
 same_decided b k (C.read o n) h a = refl

@@ -1,11 +1,11 @@
 -- A walk stepped on to its end, with reads, refused beginnings and steps with data of another length in between.
 -- In order: it is made exactly as many steps as are counted, then has ended; what a save leaves; what a format leaves.
 -- Assumes nothing.
+use Rattle.std.specs.Prelude.{Option, Some, None}
 use Prim.Native.Nat.{ℕ, suc, ◌+◌, ◌-◌, ◌/◌, ◌≤◌}
 use mathlib.Core.Path.{◌≡◌, refl, sym, ap, ap₂, subst, ◌∙◌}
 use mathlib.Core.Bool.{Bool, false, cond}
 use mathlib.Core.List.{List, [], ◌∷◌}
-use mathlib.Core.Option.{Option, none, some}
 use native.Mathlib.Omega.{arith}
 use lib.ListN.{length, drop, replicate}
 use borrow.Author.Tests.{eq-eqb}
@@ -75,14 +75,14 @@ use Rattle.model.proofs.Among.{in_hand, Under, among}
 
 -- ---- exact steps
 -- the job of a walk in hand
-job_of_lem : (b : Board) (k : Book) (h : Hand) → Agree b k → b.hand ≡ some h → (j : Job) × (k.job ≡ some j)
+job_of_lem : (b : Board) (k : Book) (h : Hand) → Agree b k → b.hand ≡ Some h → (j : Job) × (k.job ≡ Some j)
 job_of_lem b k h a e = go k.job refl
   where
-    go : (job : Option Job) → k.job ≡ job → (j : Job) × (k.job ≡ some j)
-    go none f =
-        absurd (subst (λ (q : Option Job). Hands k.page k.image b.left b.right (some h) q) f
+    go : (job : Option Job) → k.job ≡ job → (j : Job) × (k.job ≡ Some j)
+    go None f =
+        absurd (subst (λ (q : Option Job). Hands k.page k.image b.left b.right (Some h) q) f
         (subst (λ (q : Option Hand). Hands k.page k.image b.left b.right q k.job) e a.hands))
-    go (some j) f = (j, f)
+    go (Some j) f = (j, f)
 
 -- how many steps its list has
 counted_steps : (b : Board) (k : Book) (h : Hand) (j : Job) → Agree b k
@@ -104,7 +104,7 @@ pub record Ends (b : Board) (h : Hand) : Type 0 where
   pub answered : (cs : List Call) → ByteCalls cs → AllLeave b cs
       → step_answers (length h.held) b cs ≡ made_then_ended (total - h.walk.place) (steps_in (length h.held) cs)
 
-ends : (b : Board) (k : Book) (h : Hand) → Agree b k → b.hand ≡ some h → Ends b h
+ends : (b : Board) (k : Book) (h : Hand) → Agree b k → b.hand ≡ Some h → Ends b h
 ends b k h a e =
     let found = job_of_lem b k h a e in
     let j = found.0 in
@@ -132,7 +132,7 @@ ends b k h a e =
     }
 
 pub exact_steps : (l r : List ℕ) (calls : List Call) (h : Hand) → pages_number (length l) (length r) ≡ 0 → Bytes l
-    → Bytes r → ByteCalls calls → (board_after (powered l r) calls).hand ≡ some h
+    → Bytes r → ByteCalls calls → (board_after (powered l r) calls).hand ≡ Some h
     → Ends (board_after (powered l r) calls) h
 exact_steps l r calls h e bl br bc f =
     ends (board_after (powered l r) calls) (book_after (opened l r) (hearing (powered l r) calls)) h
@@ -142,9 +142,9 @@ exact_steps l r calls h e bl br bc f =
 -- the board and the book after a beginning that isn't refused
 record Started (b : Board) (k : Book) (c : Call) (asked : Asked) (w : Walk) : Type 0 where
   board : (turn b c).board
-      ≡ (record { left = b.left; right = b.right; hand = some (record { walk = w; held = data_of asked }) })
+      ≡ (record { left = b.left; right = b.right; hand = Some (record { walk = w; held = data_of asked }) })
   book : (entry k (told b c)).book
-      ≡ (record { page = k.page; image = k.image; job = some (job_of asked (list_for asked b.left b.right)) })
+      ≡ (record { page = k.page; image = k.image; job = Some (job_of asked (list_for asked b.left b.right)) })
 
 -- all its steps made among other calls: the pages are those that its list leaves
 reaches_end : (b : Board) (k : Book) (c : Call) (asked : Asked) (w : Walk) (cs : List Call) → Agree b k → ByteCall c
@@ -174,17 +174,17 @@ reaches_end b k c asked w cs a y ys s same first leave enough =
 
 begun_board : (b : Board) (d : List ℕ) (n : ℕ) (w : Walk) → n ≡ 0
     → (after_begin b d (beginning n w)).board
-    ≡ (record { left = b.left; right = b.right; hand = some (record { walk = w; held = d }) })
+    ≡ (record { left = b.left; right = b.right; hand = Some (record { walk = w; held = d }) })
 begun_board b d n w e =
     ap (λ (t : Bool). (after_begin b d (cond t (W.begun w) (W.refused n))).board) (eq-eqb n 0 e)
 
 begun_book : (k : Book) (n : ℕ) (asked : Asked) (list : List Entry) → n ≡ 0
-    → (begin_book k n asked list).book ≡ (record { page = k.page; image = k.image; job = some (job_of asked list) })
+    → (begin_book k n asked list).book ≡ (record { page = k.page; image = k.image; job = Some (job_of asked list) })
 begun_book k n asked list e =
     ap
     (λ (t : Bool).
     (cond t
-    (entered C.begun (record { page = k.page; image = k.image; job = some (job_of asked list) }))
+    (entered C.begun (record { page = k.page; image = k.image; job = Some (job_of asked list) }))
     (entered (C.number n) k)).book)
     (eq-eqb n 0 e)
 
@@ -224,7 +224,7 @@ save_steps l r o d =
 
 -- the old image with the data laid in, and the data read back; "the pair is now line 7 or line 3"
 pub record FinishedSave (l r z y : List ℕ) (o : PageOffset) (d : List ℕ) : Type 0 where
-  pub image : live_image z y ≡ some (laid_in (or_blank (image_size (length l)) (live_image l r)) o d)
+  pub image : live_image z y ≡ Some (laid_in (or_blank (image_size (length l)) (live_image l r)) o d)
   pub read_back : read_part z y o (length d) ≡ d
   pub state : (status_of z y).state ≡ settled (live_of (status_of l r).state)
 
@@ -259,15 +259,15 @@ save_ends b k o d cs a bd y z leave enough =
     let end = board_after b (c ∷ cs) in
     let kz = book_after k (hearing b (c ∷ cs)) in
     let agree : Agree end kz = still_agree b k (c ∷ cs) (bd, y) a in
-    let image : live_image end.left end.right ≡ some (laid_in base o d) =
+    let image : live_image end.left end.right ≡ Some (laid_in base o d) =
     ap₂ live_image there.0 there.1 ∙ saved.image in
-    let shown : kz.image ≡ some (laid_in base o d) = sym agree.shows ∙ image in
+    let shown : kz.image ≡ Some (laid_in base o d) = sym agree.shows ∙ image in
     let number : B.read_book kz o (length d) ≡ 0 =
     ap₂ (λ (x : ℕ) (i : Option (List ℕ)). request_number x x o (length d) (B.image_number i))
     (book_image b k (c ∷ cs) (bd, y) a).0 shown
     ∙ z in
     record {
-      image = image ∙ ap (λ (i : Option (List ℕ)). some (laid_in (or_blank (image_size (length l)) i) o d))
+      image = image ∙ ap (λ (i : Option (List ℕ)). Some (laid_in (or_blank (image_size (length l)) i) o d))
           (source_live l r);
       read_back =
           same_part end kz o (length d) agree number

@@ -1,6 +1,7 @@
 -- Every list of steps has at most one deciding store, and it is where its place says.
 -- In order: at most one; the entry at the deciding place; the lists of steps.
 -- Assumes nothing.
+use Rattle.std.specs.Prelude.{Option, Some, None}
 use Prim.Native.Nat.{ℕ, zero, suc, ◌+◌, ◌<◌}
 use mathlib.Core.Path.{◌≡◌, refl, sym, subst, ◌∙◌}
 use mathlib.Core.Bool.{Bool, true, false, cond, ◌&&◌}
@@ -13,8 +14,6 @@ use Rattle.pages.specs.declared.Side.{Side}
 use Rattle.pages.specs.declared.Side.TheVariants.{Left, Right}
 use Rattle.pages.specs.declared.State.{State}
 use Rattle.pages.specs.declared.State.TheVariants.{S0, S1, S2, S3, S5, S6, S7, S8, S9, S10}
-use Rattle.pages.specs.declared.Live.{Live}
-use Rattle.pages.specs.declared.Live.TheVariants.{Nowhere, On}
 use Rattle.pages.specs.declared.ImageOffset.{ImageOffset}
 use Rattle.pages.specs.Pages.{live_of}
 use Rattle.steps.specs.declared.Step.TheVariants.{Erase}
@@ -96,18 +95,18 @@ once_cells st s at [] xs o = o
 once_cells st s at (low ∷ []) xs o = o
 once_cells st s at (low ∷ high ∷ rest) xs o = once_cells st s (record { 0 = at.0 + 2 }) rest xs o
 
-once_marks : (v : Live) → Once (marks v)
-once_marks Nowhere = (refl, (refl, tt))
-once_marks (On s) = (refl, (refl, tt))
+once_marks : (v : Option Side) → Once (marks v)
+once_marks None = (refl, (refl, tt))
+once_marks (Some s) = (refl, (refl, tt))
 
-once_onward : (v : Live) (new : List ℕ) → Once (cells (clean v) (target v) first_cell new ++ marks v)
+once_onward : (v : Option Side) (new : List ℕ) → Once (cells (clean v) (target v) first_cell new ++ marks v)
 once_onward v new = once_cells (clean v) (target v) first_cell new (marks v) (once_marks v)
 
-once_erases : (st : State) (v : Live) (t : Bool) (xs : List Entry) → Once xs → Once (erases st v t ++ xs)
-once_erases st Nowhere true xs o = o
-once_erases st Nowhere false xs o = o
-once_erases st (On s) true xs o = o
-once_erases st (On s) false xs o = o
+once_erases : (st : State) (v : Option Side) (t : Bool) (xs : List Entry) → Once xs → Once (erases st v t ++ xs)
+once_erases st None true xs o = o
+once_erases st None false xs o = o
+once_erases st (Some s) true xs o = o
+once_erases st (Some s) false xs o = o
 
 once_recovery : (st : State) (xs : List Entry) → Once xs → Once (recovery st ++ xs)
 once_recovery S0 xs o = o

@@ -1,11 +1,11 @@
 -- Orders: their calls one after another, and that the answers are the book's.
 -- In order: a sequence after a sequence; pages of number 1; the bytes of the data; demand 3 of orders.
 -- Assumes nothing.
+use Rattle.std.specs.Prelude.{Option}
 use Prim.Native.Nat.{ℕ, zero, suc}
 use mathlib.Core.Path.{◌≡◌, refl, sym, ap, ◌∙◌}
 use mathlib.Core.Bool.{Bool, true, false, cond}
 use mathlib.Core.List.{List, [], ◌∷◌, ◌++◌}
-use mathlib.Core.Option.{Option}
 use lib.Dec.{eqb}
 use lib.ListN.{length, replicate}
 use Rattle.flash.specs.Flash.{Bytes}

@@ -1,11 +1,12 @@
 -- What reads show: the image at first with the requests that were decided on the board since, one after another.
 -- In order: an empty list; a call; a sequence; both reads.
 -- Assumes nothing.
+use Rattle.std.specs.Prelude.{Option, Some, None}
+use Rattle.pages.specs.declared.Side.{Side}
 use Prim.Native.Nat.{ℕ, ◌+◌}
 use mathlib.Core.Path.{◌≡◌, refl, sym, ap, ap₂, ◌∙◌}
 use mathlib.Core.Bool.{Bool, true, false, cond, not, ◌&&◌}
 use mathlib.Core.List.{List, [], ◌∷◌, ◌++◌}
-use mathlib.Core.Option.{Option, none, some}
 use native.Mathlib.Omega.{arith}
 use lib.Dec.{eqb}
 use lib.ListN.{length}
@@ -14,7 +15,6 @@ use Rattle.flash.specs.Flash.{Bytes}
 use Rattle.pages.specs.declared.PageOffset.{PageOffset}
 use Rattle.pages.specs.declared.State.{State}
 use Rattle.pages.specs.declared.State.TheVariants.{S0, S1, S2, S3, S5, S6, S7, S8, S9, S10}
-use Rattle.pages.specs.declared.Live.{Live}
 use Rattle.pages.specs.Pages.{live_of, status_of}
 use Rattle.pages.proofs.Table.{status_live}
 use Rattle.requests.specs.Numbers.{request_number, pages_number}
@@ -68,9 +68,9 @@ empty_format S8 erased e = absurd (omega (arith, e))
 empty_format S9 erased e = absurd (omega (arith, e))
 empty_format S10 erased e = absurd (omega (arith, e))
 
-no_image_lem : (l r : List ℕ) → (status_of l r).state ≡ S0 → live_image l r ≡ none
+no_image_lem : (l r : List ℕ) → (status_of l r).state ≡ S0 → live_image l r ≡ None
 unfolding live_image live_of
-no_image_lem l r e = ap (λ (v : Live). image_on v l r) (status_live l r ∙ ap live_of e)
+no_image_lem l r e = ap (λ (v : Option Side). image_on v l r) (status_live l r ∙ ap live_of e)
 
 reached : (b : Board) (k : Book) (asked : Asked) → Agree b k → begin_number k.page asked ≡ 0
     → Bytes (data_of asked) → length (list_for asked b.left b.right) ≡ 0
@@ -111,7 +111,7 @@ begin_image b k asked a bd =
         (record {
           page = k.page;
           image = k.image;
-          job = some (B.job_of asked (list_for asked b.left b.right));
+          job = Some (B.job_of asked (list_for asked b.left b.right));
         }))
         (entered (C.number (begin_number k.page asked)) k))
         (cond (s && t) (asked ∷ []) [])
@@ -125,8 +125,8 @@ begin_image b k asked a bd =
 
 step_image : (k : Book) (job : Option Job) (d : List ℕ) → FollowsOn k (step_book k job d) (B.step_commits job d)
 unfolding effects
-step_image k none d = (refl, refl)
-step_image k (some j) d =
+step_image k None d = (refl, refl)
+step_image k (Some j) d =
     go (eqb (length d) (length (data_of j.asked))) (eqb j.total j.made) (eqb (j.made + 1) j.commit)
   where
     go : (s t u : Bool)
@@ -137,7 +137,7 @@ step_image k (some j) d =
         (record {
           page = k.page;
           image = cond u (effect k.page j.asked k.image) k.image;
-          job = some (next_job j);
+          job = Some (next_job j);
         }))))
         (cond (s && not t && u) (j.asked ∷ []) [])
     go false t u = (refl, refl)

@@ -2,8 +2,8 @@
 -- its function's contract cites.
 -- In order: the board; what each call answers and leaves; a sequence of calls.
 -- Assumes nothing.
+use Rattle.std.specs.Prelude.{Option, Some, None}
 use Rattle.std.specs.Prelude.{ℕ, cond, List, [], ◌∷◌, eqb, length}
-use Rattle.std.proofs.Math.Option.{Option, none, some}
 use Rattle.reads.specs.Reads.{read_number, read_part, filled}
 use Rattle.walks.specs.declared.Walk.{Walk}
 use Rattle.walks.specs.Walks as W
@@ -34,7 +34,7 @@ holding b hand = record { left = b.left; right = b.right; hand = hand }
 abbrev pub after_begin : Board → List ℕ → Beginning → Turn
 after_begin b d (W.refused n) = record { answer = C.number n; board = b }
 after_begin b d (W.begun w) =
-    record { answer = C.begun; board = holding b (some (record { walk = w; held = d })) }
+    record { answer = C.begun; board = holding b (Some (record { walk = w; held = d })) }
 
 abbrev pub answer_of : Said → Answer
 answer_of (W.number n) = C.number n
@@ -55,13 +55,13 @@ after_step held o =
           record {
             left = o.left;
             right = o.right;
-            hand = some (record { walk = o.walk; held = held });
+            hand = Some (record { walk = o.walk; held = held });
           };
     }
 
 abbrev pub step_hand : Board → Option Hand → List ℕ → Turn
-step_hand b none d = record { answer = C.nothing; board = b }
-step_hand b (some h) d =
+step_hand b None d = record { answer = C.nothing; board = b }
+step_hand b (Some h) d =
     after_step h.held (step_of h.walk b.left b.right (handed h.held d))
 
 -- a part read: its bytes, or the number
@@ -81,11 +81,11 @@ turn b (C.read o n) =
 turn b (C.read_into o out) =
     let f = filled b.left b.right o out in
     record { answer = C.output f.number f.bytes; board = b }
-turn b C.cut = record { answer = C.nothing; board = holding b none }
+turn b C.cut = record { answer = C.nothing; board = holding b None }
 
 -- the board at first: any two pages, and no walk
 abbrev pub powered : List ℕ → List ℕ → Board
-powered l r = record { left = l; right = r; hand = none }
+powered l r = record { left = l; right = r; hand = None }
 
 -- the answers to a sequence of calls, and the board after it
 unfoldable pub answers : Board → List Call → List Answer

@@ -1,8 +1,8 @@
 -- The abstract model: document 01's book of demand 3, from that section by itself.
 -- In order: what the book is told; what it holds; each call; a sequence of calls.
 -- Assumes nothing.
+use Rattle.std.specs.Prelude.{Option, Some, None}
 use Rattle.std.specs.Prelude.{ℕ, zero, suc, ◌+◌, cond, not, ◌&&◌, List, [], ◌∷◌, ◌++◌, eqb, length, take, drop}
-use Rattle.std.proofs.Math.Option.{Option, none, some}
 use Rattle.pages.specs.declared.PageOffset.{PageOffset}
 use Rattle.pages.specs.Offsets.{image_size}
 use Rattle.images.specs.Images.{live_image, or_blank, in_page, laid_in}
@@ -64,7 +64,7 @@ entered answer k = record { answer = answer; book = k }
 
 -- "At first: the image of the live page, or none at line 0; no walk."
 abbrev pub opened : List ℕ → List ℕ → Book
-opened l r = record { page = length l; image = live_image l r; job = none }
+opened l r = record { page = length l; image = live_image l r; job = None }
 
 -- "its list of steps for these pages"
 abbrev pub list_for : Asked → List ℕ → List ℕ → List Entry
@@ -96,13 +96,13 @@ abbrev pub begin_book : Book → ℕ → Asked → List Entry → Entered
 begin_book k number asked list =
     cond (eqb number 0)
     (entered C.begun
-    (record { page = k.page; image = k.image; job = some (job_of asked list) }))
+    (record { page = k.page; image = k.image; job = Some (job_of asked list) }))
     (entered (C.number number) k)
 
 -- "a save lays its data into the image (all FF if none) and a format leaves none"
 abbrev pub effect : ℕ → Asked → Option (List ℕ) → Option (List ℕ)
-effect p (save o d) image = some (laid_in (or_blank (image_size p) image) o d)
-effect p format image = none
+effect p (save o d) image = Some (laid_in (or_blank (image_size p) image) o d)
+effect p format image = None
 
 -- "Otherwise one more is made. If that is the deciding one, .."
 abbrev pub next_job : Job → Job
@@ -117,14 +117,14 @@ one_more k j =
           cond (eqb (j.made + 1) j.commit)
           (effect k.page j.asked k.image)
           k.image;
-      job = some (next_job j);
+      job = Some (next_job j);
     }
 
 -- "Step: with no walk it is no call and changes nothing. If the data hasn't the length of the
 -- save's data (0 for a format): 6, nothing changes. If all steps are made: ended, nothing changes."
 abbrev pub step_book : Book → Option Job → List ℕ → Entered
-step_book k none d = entered C.nothing k
-step_book k (some j) d =
+step_book k None d = entered C.nothing k
+step_book k (Some j) d =
     cond (not (eqb (length d) (length (data_of j.asked))))
     (entered (C.number 6) k)
     (cond (eqb j.total j.made)
@@ -134,15 +134,15 @@ step_book k (some j) d =
 -- "Read: 1 to 4 by the table; otherwise 5 if there is no image; otherwise the asked bytes of the
 -- image, its first byte being page offset 4."
 abbrev pub image_number : Option (List ℕ) → ℕ
-image_number none = 5
-image_number (some image) = 0
+image_number None = 5
+image_number (Some image) = 0
 
 abbrev pub read_book : Book → PageOffset → ℕ → ℕ
 read_book k o n = request_number k.page k.page o n (image_number k.image)
 
 abbrev pub asked_bytes : Option (List ℕ) → PageOffset → ℕ → List ℕ
-asked_bytes none o n = []
-asked_bytes (some image) o n = take n (drop o.0 (in_page image))
+asked_bytes None o n = []
+asked_bytes (Some image) o n = take n (drop o.0 (in_page image))
 
 -- each call in the book
 unfoldable pub entry : Book → Told → Entered
@@ -152,7 +152,7 @@ entry k (read o n) = entered (part_read (read_book k o n) (asked_bytes k.image o
 entry k (read_into o out) =
     let n = read_book k o (length out) in
     entered (C.output n (output_after n (asked_bytes k.image o (length out)) out)) k
-entry k cut = entered C.nothing (record { page = k.page; image = k.image; job = none })
+entry k cut = entered C.nothing (record { page = k.page; image = k.image; job = None })
 
 -- the book's answers to a sequence, and the book after it
 unfoldable pub book_answers : Book → List Told → List Answer
@@ -169,8 +169,8 @@ abbrev pub begin_commits : ℕ → Asked → List Entry → List Asked
 begin_commits number asked list = cond (eqb number 0 && eqb (length list) 0) (asked ∷ []) []
 
 abbrev pub step_commits : Option Job → List ℕ → List Asked
-step_commits none d = []
-step_commits (some j) d =
+step_commits None d = []
+step_commits (Some j) d =
     cond
     (eqb (length d) (length (data_of j.asked)) && not (eqb j.total j.made)
     && eqb (j.made + 1) j.commit)

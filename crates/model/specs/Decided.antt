@@ -1,8 +1,8 @@
 -- What is decided on the board: the requests whose walk made its deciding store, seen from the board
 -- alone. That they are the book's, in order, is a theorem (proofs/Decided.antt).
 -- Assumes nothing.
+use Rattle.std.specs.Prelude.{Option, Some, None}
 use Rattle.std.specs.Prelude.{ℕ, Bool, true, false, cond, ◌&&◌, List, [], ◌∷◌, ◌++◌, eqb, length, get_or}
-use Rattle.std.proofs.Math.Option.{Option, none, some}
 use Rattle.pages.specs.declared.PageOffset.{PageOffset}
 use Rattle.plans.specs.declared.Request.{Request}
 use Rattle.plans.specs.declared.Request.TheVariants.{Save, Format}
@@ -46,8 +46,8 @@ at_commit b h =
 
 -- a step decides where it is made and its entry commits
 abbrev pub step_decides : Board → Option Hand → List ℕ → List Asked
-step_decides b none d = []
-step_decides b (some h) d =
+step_decides b None d = []
+step_decides b (Some h) d =
     cond (is_made (turn b (C.step d)).answer && at_commit b h) (asked_of h ∷ []) []
 
 -- a beginning decides where the walk is begun and has no steps

@@ -2,8 +2,8 @@
 -- hand, so the calls of an order depend on the board.
 -- In order: orders; their calls; their answers.
 -- Assumes nothing.
+use Rattle.std.specs.Prelude.{Option, Some, None}
 use Rattle.std.specs.Prelude.{ℕ, cond, List, [], ◌∷◌, ◌++◌, eqb, length, replicate}
-use Rattle.std.proofs.Math.Option.{Option, none, some}
 use Rattle.requests.specs.Numbers.{pages_number}
 use Rattle.model.specs.Calls.{Call, Answer}
 use Rattle.model.specs.Calls as C
@@ -17,8 +17,8 @@ pub data Order : Type 0 where
 
 -- "The held data is that of the save in hand, and empty for a format or with no walk."
 abbrev pub held_in : Option Hand → List ℕ
-held_in none = []
-held_in (some h) = h.held
+held_in None = []
+held_in (Some h) = h.held
 
 -- the calls of an order, with this walk in hand
 abbrev pub calls_of : Option Hand → Order → List Call

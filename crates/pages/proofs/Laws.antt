@@ -1,25 +1,24 @@
 -- Laws of the look-up in a list of rows, of answers and of offsets.
 -- In order: the look-up, row by row; states and what an answer says; offsets.
 -- Not here: what holds of document 01's own table (Table.antt, Life.antt). Assumes nothing.
+use Rattle.std.specs.Prelude.{Option, Some, None}
 use Prim.Native.Nat.{ℕ, zero, suc, ◌+◌, ◌*◌, ◌<◌, ◌≤◌, min}
 use mathlib.Core.Path.{◌≡◌, refl, sym, ap, ◌∙◌}
 use mathlib.Core.Bool.{Bool, true, false, ◌&&◌}
 use mathlib.Core.List.{List, [], ◌∷◌}
-use mathlib.Core.Option.{Option, none, some}
+use native.Mathlib.Numerals.{add-one}
 use native.Mathlib.Omega.{arith}
 use lib.Dec.{eqb, ltb}
-use lib.ListN.{get_or, get_or-eq_default}
+use lib.ListN.{length, drop, get_or, get_or-eq_default}
+use Rattle.std.specs.Prelude.{slice_index_or}
 use borrow.Author.Tests.{eq-eqb, ne_eqb, eqb-true, eqb-false, ltb-true, ltb-false}
-use Rattle.pages.specs.declared.Side.{Side}
 use Rattle.pages.specs.declared.State.{State}
 use Rattle.pages.specs.declared.State.TheVariants.{S0, S1, S2, S3, S5, S6, S7, S8, S9, S10}
-use Rattle.pages.specs.declared.Live.{Live}
-use Rattle.pages.specs.declared.Live.TheVariants.{Nowhere, On}
 use Rattle.pages.specs.declared.Status.{Status}
 use Rattle.pages.specs.declared.Row.{Row}
 use Rattle.pages.specs.declared.PageOffset.{PageOffset}
 use Rattle.pages.specs.declared.ImageOffset.{ImageOffset}
-use Rattle.pages.specs.Pages.{hits, look, line_of, states, state_from, side_in, Standing, standing}
+use Rattle.pages.specs.Pages.{hits, look, line_of, states, state_from, Standing, standing}
 use Rattle.pages.specs.Offsets.{to_page}
 
 -- a row that doesn't hold the words is passed over, and one that holds them is the answer
@@ -29,7 +28,7 @@ unfolding look
 passed x xs l r t e h = simp (sym e ∙ h)
 
 pub held : (x : Row) (xs : List Row) (l r : ℕ) (t : Bool) (s : Status) → t ≡ hits x l r → t ≡ true
-    → s ≡ (record { state = x.2; live = On x.3 }) → s ≡ look (x ∷ xs) l r
+    → s ≡ (record { state = x.2; live = Some x.3 }) → s ≡ look (x ∷ xs) l r
 unfolding look
 held x xs l r t s e h f = f ∙ sym (simp (sym e ∙ h))
 
@@ -71,7 +70,7 @@ pub line_same : (s t : State) → line_of s ≡ line_of t → s ≡ t
 line_same s t e = sym (at_line s) ∙ ap state_at e ∙ at_line t
 
 -- and by the list of the states
-pub named_at : (s : State) → state_from (line_of s) ≡ some s
+pub named_at : (s : State) → state_from (line_of s) ≡ Some s
 named_at S0 = refl
 named_at S1 = refl
 named_at S2 = refl
@@ -86,28 +85,28 @@ named_at S10 = refl
 -- and a number that names a state is that state's own, once over the states
 abbrev Numbered : ℕ → List (Option State) → Type 0
 Numbered i [] = Unit {0}
-Numbered i (none ∷ xs) = Numbered (suc i) xs
-Numbered i (some s ∷ xs) = (line_of s ≡ i) × Numbered (suc i) xs
+Numbered i (None ∷ xs) = Numbered (suc i) xs
+Numbered i (Some s ∷ xs) = (line_of s ≡ i) × Numbered (suc i) xs
 
 numbered : Numbered 0 states
 numbered = search (refl, tt)
 
-unnamed : (s : State) → none ≡ some s → ⊥
+unnamed : (s : State) → None ≡ Some s → ⊥
 unnamed s e = let z : ◌≡◌ {A = ℕ} 0 1 = cc in absurd (omega (arith, z))
 
-at_number : (xs : List (Option State)) (i k : ℕ) (s : State) → Numbered i xs → get_or xs k none ≡ some s
+at_number : (xs : List (Option State)) (i k : ℕ) (s : State) → Numbered i xs → get_or xs k None ≡ Some s
     → line_of s ≡ i + k
 at_number [] i k s h e = absurd (unnamed s e)
-at_number (none ∷ xs) i zero s h e = absurd (unnamed s e)
-at_number (none ∷ xs) i (suc k) s h e =
+at_number (None ∷ xs) i zero s h e = absurd (unnamed s e)
+at_number (None ∷ xs) i (suc k) s h e =
     let rest = at_number xs (suc i) k s h e in omega (arith, rest)
-at_number (some t ∷ xs) i zero s h e =
+at_number (Some t ∷ xs) i zero s h e =
     let same : t ≡ s = cc in
     let here : line_of t ≡ line_of s = ap line_of same in omega (arith, here, h.0)
-at_number (some t ∷ xs) i (suc k) s h e =
+at_number (Some t ∷ xs) i (suc k) s h e =
     let rest = at_number xs (suc i) k s h.1 e in omega (arith, rest)
 
-pub line_named : (n : ℕ) (s : State) → state_from n ≡ some s → line_of s ≡ n
+pub line_named : (n : ℕ) (s : State) → state_from n ≡ Some s → line_of s ≡ n
 line_named n s e = let here = at_number states 0 n s numbered e in omega (arith, here)
 
 -- a number that isn't one of the ten has no state
@@ -121,33 +120,22 @@ four : (n : ℕ) → 3 < n → n < 5 → n ≡ 4
 four n h k = omega (arith, h, k)
 
 pub nameless : (line : ℕ) → (line ≡ 0 → ⊥) → (line ≡ 1 → ⊥) → (line ≡ 2 → ⊥) → (line ≡ 3 → ⊥) → (line ≡ 5 → ⊥)
-    → (line ≡ 6 → ⊥) → (line ≡ 7 → ⊥) → (line ≡ 8 → ⊥) → (line ≡ 9 → ⊥) → (line ≡ 10 → ⊥) → none ≡ state_from line
+    → (line ≡ 6 → ⊥) → (line ≡ 7 → ⊥) → (line ≡ 8 → ⊥) → (line ≡ 9 → ⊥) → (line ≡ 10 → ⊥) → None ≡ state_from line
 nameless line a b c d e f g h i j = go (ltb line 11) refl
   where
-    go : (t : Bool) → ltb line 11 ≡ t → none ≡ state_from line
+    go : (t : Bool) → ltb line 11 ≡ t → None ≡ state_from line
     go true p =
         let least : 3 < line = above line 3 (above line 2 (above line 1 (above line 0 (omega arith) a) b) c) d in
         let most : line < 5 =
         below line 5 (below line 6 (below line 7 (below line 8 (below line 9 (below line 10
         (ltb-true line 11 p) j) i) h) g) f) e in
         ap state_from (sym (four line least most))
-    go false p = sym (get_or-eq_default states none (ltb-false line 11 p))
-
-abbrev live_on : Option Side → Live
-live_on none = Nowhere
-live_on (some s) = On s
-
-at_side : (v : Live) → live_on (side_in v) ≡ v
-at_side Nowhere = refl
-at_side (On s) = refl
-
-pub live_same : (v w : Live) → side_in v ≡ side_in w → v ≡ w
-live_same v w e = sym (at_side v) ∙ ap live_on e ∙ at_side w
+    go false p = sym (get_or-eq_default states None (ltb-false line 11 p))
 
 pub standing_same : (a b : Status) → standing a ≡ standing b → a ≡ b
 standing_same a b e =
     let states : a.state ≡ b.state = line_same a.state b.state (ap (λ (x : Standing). x.line) e) in
-    let lives : a.live ≡ b.live = live_same a.live b.live (ap (λ (x : Standing). x.live) e) in
+    let lives : a.live ≡ b.live = ap (λ (x : Standing). x.live) e in
     λ i. record { state = states i; live = lives i }
 
 -- ---- offsets: 4 apart, as far as 32 bits go
@@ -161,3 +149,30 @@ within_bits i h = ap (λ (n : ℕ). record { 0 = n }) (sym (page_offset i h))
 pub past_bits : (i : ImageOffset) → 4294967291 < i.0 → ◌≡◌ {A = PageOffset} (record { 0 = 4294967295 }) (to_page i)
 unfolding to_page
 past_bits i h = let e : 4294967295 ≡ min (4 + i.0) 4294967295 = omega arith in ap (λ (n : ℕ). record { 0 = n }) e
+
+-- ---- a look-up in the rows from a place on
+passed_one : (xs : List Row) (k : ℕ) (d : Row) (l r : ℕ) (t : Bool) → k < length xs
+    → t ≡ hits (slice_index_or xs k d) l r → t ≡ false → look (drop k xs) l r ≡ look (drop (suc k) xs) l r
+passed_one [] k d l r t h e f = absurd (omega (arith, h))
+passed_one (x ∷ xs) zero d l r t h e f = passed x xs l r t e f
+passed_one (x ∷ xs) (suc k) d l r t h e f = passed_one xs k d l r t (omega (arith, h)) e f
+
+pub passed_at : (xs : List Row) (k : ℕ) (d : Row) (l r : ℕ) (t : Bool) → k < length xs
+    → t ≡ hits (slice_index_or xs k d) l r → t ≡ false → look (drop k xs) l r ≡ look (drop (k + 1) xs) l r
+passed_at xs k d l r t h e f =
+    passed_one xs k d l r t h e f ∙ ap (λ (j : ℕ). look (drop j xs) l r) (sym (add-one k))
+
+pub held_at : (xs : List Row) (k : ℕ) (d : Row) (l r : ℕ) (t : Bool) → k < length xs
+    → t ≡ hits (slice_index_or xs k d) l r → t ≡ true
+    → record { state = (slice_index_or xs k d).2; live = Some (slice_index_or xs k d).3 } ≡ look (drop k xs) l r
+held_at [] k d l r t h e f = absurd (omega (arith, h))
+held_at (x ∷ xs) zero d l r t h e f = held x xs l r t _ e f refl
+held_at (x ∷ xs) (suc k) d l r t h e f = held_at xs k d l r t (omega (arith, h)) e f
+
+pub none_left : (xs : List Row) (k : ℕ) (l r : ℕ) → length xs ≤ k
+    → record { state = S0; live = None } ≡ look (drop k xs) l r
+unfolding look
+none_left [] zero l r h = refl
+none_left [] (suc k) l r h = refl
+none_left (x ∷ xs) zero l r h = absurd (omega (arith, h))
+none_left (x ∷ xs) (suc k) l r h = none_left xs k l r (omega (arith, h))

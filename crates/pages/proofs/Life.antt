@@ -4,10 +4,10 @@
 -- refused here, though the code changed alike.
 -- In order: what changes a word; the life; that each moment's line and live side are those of the table; no other row.
 -- Assumes nothing.
+use Rattle.std.specs.Prelude.{Option, Some}
 use Prim.Native.Nat.{ℕ, ◌+◌, ◌*◌, ◌/◌, ◌%◌}
 use mathlib.Core.Path.{◌≡◌, refl}
 use mathlib.Core.List.{List, [], ◌∷◌}
-use mathlib.Core.Option.{Option, some}
 use lib.ListN.{length}
 use Rattle.pages.specs.declared.Side.{Side}
 use Rattle.pages.specs.declared.Side.TheVariants.{Left, Right}
@@ -47,7 +47,7 @@ pub record Moment : Type 0 where
   pub live : Option Side
 
 abbrev pub then : Change → ℕ → Side → Moment
-then change line side = record { change = change; line = line; live = some side }
+then change line side = record { change = change; line = line; live = Some side }
 
 abbrev pub life : List Moment
 life =

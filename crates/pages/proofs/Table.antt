@@ -3,6 +3,7 @@
 -- of their state, a state other than S0 is the words of its row and no others, and a RIGHT whose Spare isn't FF has no
 -- row.
 -- Assumes nothing.
+use Rattle.std.specs.Prelude.{Some}
 use mathlib.Core.Path.{◌≡◌, refl, sym, ap, ap₂, ◌∙◌}
 use mathlib.Core.Bool.{Bool, true, false, cond, not, ◌&&◌, ◌||◌}
 use mathlib.Core.List.{List, [], ◌∷◌}
@@ -13,7 +14,6 @@ use lib.ListN.{get_or}
 use borrow.Author.Tests.{eqb-true, ltb-false}
 use Rattle.pages.specs.declared.State.{State}
 use Rattle.pages.specs.declared.State.TheVariants.{S0, S1, S2, S3, S5, S6, S7, S8, S9, S10}
-use Rattle.pages.specs.declared.Live.TheVariants.{On}
 use Rattle.pages.specs.declared.Status.{Status}
 use Rattle.pages.specs.declared.Row.{Row}
 use Rattle.pages.specs.Pages.{on_side, table, hits, look, line_of, live_of, row_of, status_of, word_of}
@@ -41,8 +41,8 @@ other_word x = on_side x.3 x.1 x.0
 -- one leads
 abbrev pub Ruled : Row → Type 0
 Ruled x =
-    (look table x.0 x.1 ≡ (record { state = x.2; live = On x.3 }))
-    × (live_of x.2 ≡ On x.3)
+    (look table x.0 x.1 ≡ (record { state = x.2; live = Some x.3 }))
+    × (live_of x.2 ≡ Some x.3)
     × (leads (live_word x) (other_word x) ≡ true)
     × (leads (other_word x) (live_word x) ≡ false)
 
@@ -60,7 +60,7 @@ look_live : (xs : List Row) → All Ruled xs → (l r : ℕ) → (look xs l r).l
 unfolding look live_of
 look_live [] a l r = refl
 look_live (x ∷ xs) a l r =
-    pick_live (hits x l r) (record { state = x.2; live = On x.3 }) (look xs l r)
+    pick_live (hits x l r) (record { state = x.2; live = Some x.3 }) (look xs l r)
     (sym a.0.1) (look_live xs a.1 l r)
 
 pub status_live : (l r : List ℕ) → (status_of l r).live ≡ live_of (status_of l r).state
@@ -84,7 +84,7 @@ found (x ∷ xs) a l r st e h =
   where
     go : (s t : Bool) → eqb x.0 l ≡ s → eqb x.1 r ≡ t
         → ((look xs l r).state ≡ st → (line_of st ≡ 0 → ⊥) → (l ≡ (row_of st).0) × (r ≡ (row_of st).1))
-        → (cond (s && t) (record { state = x.2; live = On x.3 }) (look xs l r)).state ≡ st
+        → (cond (s && t) (record { state = x.2; live = Some x.3 }) (look xs l r)).state ≡ st
         → (line_of st ≡ 0 → ⊥) → (l ≡ (row_of st).0) × (r ≡ (row_of st).1)
     go true true p q later e h =
         let y : row_of st ≡ x = ap row_of (sym e) ∙ a.0 in (
@@ -131,7 +131,7 @@ no_row [] a l r h = refl
 no_row (x ∷ xs) a l r h = go (eqb x.0 l) (eqb x.1 r) refl (no_row xs a.1 l r h)
   where
     go : (s t : Bool) → eqb x.1 r ≡ t → (look xs l r).state ≡ S0
-        → (cond (s && t) (record { state = x.2; live = On x.3 }) (look xs l r)).state ≡ S0
+        → (cond (s && t) (record { state = x.2; live = Some x.3 }) (look xs l r)).state ≡ S0
     go true true q later =
         absurd (omega (arith, eqb-true x.1 r q, h, ltb-false x.1 0xFF000000 a.0))
     go true false q later = later

@@ -3,16 +3,12 @@
 -- line number, live side and row; what an answer says.
 -- Not here: the image and offsets (Offsets.antt). Laws: proofs/Laws.antt, and of the table
 -- proofs/Table.antt and proofs/Life.antt. Assumes nothing.
+use Rattle.std.specs.Prelude.{Option, Some, None}
 use Rattle.std.specs.Prelude.{ℕ, ◌+◌, ◌*◌, ◌/◌, ◌%◌, Bool, cond, ◌&&◌, List, [], ◌∷◌, eqb, get_or}
-use Rattle.std.proofs.Math.Option.{Option, none, some}
 use Rattle.pages.specs.declared.Side.{Side}
 use Rattle.pages.specs.declared.Side.TheVariants.{Left, Right}
 use Rattle.pages.specs.declared.State.{State}
 use Rattle.pages.specs.declared.State.TheVariants.{S0, S1, S2, S3, S5, S6, S7, S8, S9, S10}
-use Rattle.pages.specs.declared.LineState as L
-use Rattle.pages.specs.declared.LineState.{LineState}
-use Rattle.pages.specs.declared.Live.{Live}
-use Rattle.pages.specs.declared.Live.TheVariants.{Nowhere, On}
 use Rattle.pages.specs.declared.Status.{Status}
 use Rattle.pages.specs.declared.Row.{Row}
 
@@ -58,11 +54,11 @@ hits x l r = eqb x.0 l && eqb x.1 r
 
 -- the state and live side of a row that holds the words, else those given
 abbrev pub picked : Row → ℕ → ℕ → Status → Status
-picked x l r rest = cond (hits x l r) (record { state = x.2; live = On x.3 }) rest
+picked x l r rest = cond (hits x l r) (record { state = x.2; live = Some x.3 }) rest
 
 -- the state and live side of the row that holds a pair of words; "0: any other pair", none live
 unfoldable pub look : List Row → ℕ → ℕ → Status
-look [] l r = record { state = S0; live = Nowhere }
+look [] l r = record { state = S0; live = None }
 look (x ∷ xs) l r = picked x l r (look xs l r)
 
 -- the state of two pages, and which is live
@@ -85,34 +81,34 @@ line_of S10 = 10
 -- the state of each line number from 0 on; lines 1 and 4 are one state, under 1
 abbrev pub states : List (Option State)
 states =
-    some S0
-    ∷ some S1
-    ∷ some S2
-    ∷ some S3
-    ∷ none
-    ∷ some S5
-    ∷ some S6
-    ∷ some S7
-    ∷ some S8
-    ∷ some S9
-    ∷ some S10
+    Some S0
+    ∷ Some S1
+    ∷ Some S2
+    ∷ Some S3
+    ∷ None
+    ∷ Some S5
+    ∷ Some S6
+    ∷ Some S7
+    ∷ Some S8
+    ∷ Some S9
+    ∷ Some S10
     ∷ []
 
 abbrev pub state_from : ℕ → Option State
-state_from line = get_or states line none
+state_from line = get_or states line None
 
 -- the live side of each state, as the table has it
-unfoldable pub live_of : State → Live
-live_of S0 = Nowhere
-live_of S1 = On Left
-live_of S2 = On Left
-live_of S3 = On Left
-live_of S5 = On Right
-live_of S6 = On Right
-live_of S7 = On Right
-live_of S8 = On Right
-live_of S9 = On Left
-live_of S10 = On Left
+unfoldable pub live_of : State → Option Side
+live_of S0 = None
+live_of S1 = Some Left
+live_of S2 = Some Left
+live_of S3 = Some Left
+live_of S5 = Some Right
+live_of S6 = Some Right
+live_of S7 = Some Right
+live_of S8 = Some Right
+live_of S9 = Some Left
+live_of S10 = Some Left
 
 -- the row of each state; S0 has none
 abbrev pub row_of : State → Row
@@ -128,20 +124,10 @@ row_of S9 = get_or table 7 (row 0 0 S0 Left)
 row_of S10 = get_or table 8 (row 0 0 S0 Left)
 
 -- ---- what an answer says
--- the state of a line number, if one has it
-abbrev pub named_in : LineState → Option State
-named_in (L.TheVariants.In state) = some state
-named_in L.TheVariants.Unknown = none
-
--- the live side, if there is one
-abbrev pub side_in : Live → Option Side
-side_in Nowhere = none
-side_in (On s) = some s
-
 -- the line number and the live side
 pub record Standing : Type 0 where
   pub line : ℕ
   pub live : Option Side
 
 abbrev pub standing : Status → Standing
-standing s = record { line = line_of s.state; live = side_in s.live }
+standing s = record { line = line_of s.state; live = s.live }

@@ -5,17 +5,19 @@
 // Valid lowest. Bytes 4 to P - 1 are the image. What each answer means is in specs/Pages.antt.
 #![tactic(auto)]
 
-ghost use Rattle.std.specs.Prelude.{◌≡◌, get_or};
+ghost use Rattle.std.specs.Prelude.{◌≡◌, get_or, Some, codes};
+ghost use Rattle.pages.specs.declared.Side.TheVariants.{Left, Right};
 ghost use Rattle.pages.specs.Pages.{
+  on_side,
   word_of,
   word_from,
   line_of,
   live_of,
   state_from,
-  named_in,
-  side_in,
 };
 ghost use Rattle.pages.specs.Offsets.{to_page};
+
+use std::fmt;
 
 // How many bytes of a page are management.
 pub const MANAGEMENT_SIZE: u32 = 4;
@@ -25,15 +27,45 @@ pub const MIN_PAGE: usize = 8;
 
 pub const MAX_PAGE: usize = 4096;
 
-#[derive(Clone, Copy)]
+#[derive(Clone, Copy, Debug, PartialEq, Eq)]
 pub enum Side {
     Left,
     Right,
 }
 
+impl Side {
+    // Of two things, one for each side, the one of this side.
+    pub fn pick<T: Copy>(self, left: T, right: T) -> T
+        ensures { result ≡ on_side self left right }
+    {
+        match self {
+            Side::Left => left,
+            Side::Right => right,
+        }
+    }
+
+    // The other side.
+    pub fn other(self) -> Side
+        ensures { result ≡ on_side self Right Left }
+    {
+        self.pick(Side::Right, Side::Left)
+    }
+}
+
+impl fmt::Display for Side {
+    ghost output = { λ side. Some (on_side side (codes "LEFT") (codes "RIGHT")) };
+
+    fn fmt<W: fmt::Write>(&self, f: &mut fmt::Formatter<W>) -> fmt::Result {
+        match self {
+            Side::Left => write!(f, "LEFT"),
+            Side::Right => write!(f, "RIGHT"),
+        }
+    }
+}
+
 // The state of a pair of management words: a line of document 01, under its number. S1 is the lines
 // 1 and 4, which hold the same words; S0 is every pair that is in no other line.
-#[derive(Clone, Copy)]
+#[derive(Clone, Copy, Debug, PartialEq, Eq)]
 pub enum State {
     S0,
     S1,
@@ -67,81 +99,70 @@ impl State {
     }
 
     // The state with a line number. No state has 4, which is line 1.
-    pub fn of_line(line: u8) -> LineState
-        ensures { named_in result ≡ state_from line }
+    pub fn of_line(line: u8) -> Option<State>
+        ensures { result ≡ state_from line }
     {
         match line {
-            0 => LineState::In(State::S0),
-            1 => LineState::In(State::S1),
-            2 => LineState::In(State::S2),
-            3 => LineState::In(State::S3),
-            5 => LineState::In(State::S5),
-            6 => LineState::In(State::S6),
-            7 => LineState::In(State::S7),
-            8 => LineState::In(State::S8),
-            9 => LineState::In(State::S9),
-            10 => LineState::In(State::S10),
-            _ => LineState::Unknown,
+            0 => Some(State::S0),
+            1 => Some(State::S1),
+            2 => Some(State::S2),
+            3 => Some(State::S3),
+            5 => Some(State::S5),
+            6 => Some(State::S6),
+            7 => Some(State::S7),
+            8 => Some(State::S8),
+            9 => Some(State::S9),
+            10 => Some(State::S10),
+            _ => None,
         }
     }
 
     // The live side at this line, if there is one.
-    pub fn live(self) -> Live
-        ensures { side_in result ≡ side_in (live_of self) }
+    pub fn live(self) -> Option<Side>
+        ensures { result ≡ live_of self }
     {
         match self {
-            State::S0 => Live::Nowhere,
-            State::S1 => Live::On(Side::Left),
-            State::S2 => Live::On(Side::Left),
-            State::S3 => Live::On(Side::Left),
-            State::S5 => Live::On(Side::Right),
-            State::S6 => Live::On(Side::Right),
-            State::S7 => Live::On(Side::Right),
-            State::S8 => Live::On(Side::Right),
-            State::S9 => Live::On(Side::Left),
-            State::S10 => Live::On(Side::Left),
+            State::S0 => None,
+            State::S1 => Some(Side::Left),
+            State::S2 => Some(Side::Left),
+            State::S3 => Some(Side::Left),
+            State::S5 => Some(Side::Right),
+            State::S6 => Some(Side::Right),
+            State::S7 => Some(Side::Right),
+            State::S8 => Some(Side::Right),
+            State::S9 => Some(Side::Left),
+            State::S10 => Some(Side::Left),
         }
     }
 }
 
-// The state that a line number names, if one does.
-#[derive(Clone, Copy)]
-pub enum LineState {
-    In(State),
-    Unknown,
-}
-
-// Which page is live, if any.
-#[derive(Clone, Copy)]
-pub enum Live {
-    Nowhere,
-    On(Side),
-}
-
-#[derive(Clone, Copy)]
+// The state of two pages, and which of them is live, if one is.
+#[derive(Clone, Copy, Debug, PartialEq, Eq)]
 pub struct Status {
     pub state: State,
-    pub live: Live,
+    pub live: Option<Side>,
 }
 
-// A row of the table: the word of LEFT, the word of RIGHT, their state and the live side.
-#[derive(Clone, Copy)]
+// A row of the table: the word of LEFT, the word of RIGHT, their state and the live side. Without names
+// a row stands on one line, as in the paper's table.
+#[derive(Clone, Copy, Debug, PartialEq, Eq)]
 pub struct Row(pub u32, pub u32, pub State, pub Side);
 
 // The byte at a place, or 0 past the end.
 fn byte_at(page: &[u8], at: usize) -> u8
     ensures { result ≡ get_or page.now at 0 }
 {
-    if at < page.len() { page[at] } else { 0 }
+    page.get(at).copied().unwrap_or(0)
 }
 
 fn joined(valid: u8, active: u8, dead: u8, spare: u8) -> u32
     ensures { result ≡ word_from valid active dead spare }
 {
-    valid as u32 + active as u32 * 256 + dead as u32 * 65536 + spare as u32 * 16777216
+    u32::from_le_bytes([valid, active, dead, spare])
 }
 
 // The management word of a slice that may lack some of its bytes.
+#[tactic(auto, unfolding(crate::specs::Pages::word_of))]
 fn short_word(page: &[u8]) -> u32
     ensures { result ≡ word_of page.now }
 {
@@ -154,21 +175,22 @@ fn short_word(page: &[u8]) -> u32
 }
 
 // The management word of a page. Bytes that a shorter slice lacks count as 0.
+#[tactic(auto, unfolding(crate::specs::Pages::word_of))]
 pub fn word(page: &[u8]) -> u32
     ensures { result ≡ word_of page.now }
 {
-    if page.len() < 4 {
-        return short_word(page);
+    match page {
+        [valid, active, dead, spare, ..] => joined(*valid, *active, *dead, *spare),
+        _ => short_word(page),
     }
-    joined(page[0], page[1], page[2], page[3])
 }
 
 // An offset from byte 0 of a page: what requests give.
-#[derive(Clone, Copy)]
+#[derive(Clone, Copy, Debug, PartialEq, Eq)]
 pub struct PageOffset(pub u32);
 
 // An offset from the first byte of the image.
-#[derive(Clone, Copy)]
+#[derive(Clone, Copy, Debug, PartialEq, Eq)]
 pub struct ImageOffset(pub u32);
 
 // The last offset of 32 bits.

@@ -1,6 +1,7 @@
 -- The table of counts: how many steps the list of a request has, each row, both kinds; and the bound.
 -- In order: the image cells; a save's and a format's list; the bound.
 -- Assumes nothing.
+use Rattle.std.specs.Prelude.{Option, Some, None}
 use Prim.Native.Nat.{ℕ, ◌+◌, ◌-◌, ◌/◌, ◌≤◌}
 use mathlib.Core.Path.{◌≡◌, refl, ap, ◌∙◌}
 use mathlib.Core.Bool.{Bool, true, false, cond, ◌&&◌}
@@ -11,8 +12,6 @@ use Rattle.pages.specs.declared.Side.{Side}
 use Rattle.pages.specs.declared.Side.TheVariants.{Right}
 use Rattle.pages.specs.declared.State.{State}
 use Rattle.pages.specs.declared.State.TheVariants.{S0, S1, S2, S3, S5, S6, S7, S8, S9, S10}
-use Rattle.pages.specs.declared.Live.{Live}
-use Rattle.pages.specs.declared.Live.TheVariants.{Nowhere, On}
 use Rattle.pages.specs.declared.ImageOffset.{ImageOffset}
 use Rattle.pages.specs.Pages.{live_of}
 use Rattle.pages.specs.Offsets.{image_size}
@@ -62,9 +61,9 @@ ready_length S8 false = refl
 ready_length S9 erased = refl
 ready_length S10 erased = refl
 
-marks_length : (v : Live) → length (marks v) ≡ 3
-marks_length Nowhere = refl
-marks_length (On s) = refl
+marks_length : (v : Option Side) → length (marks v) ≡ 3
+marks_length None = refl
+marks_length (Some s) = refl
 
 save_length : (st : State) (erased : Bool) (new : List ℕ)
     → length (saving st erased new) ≡ length new / 2 + added st erased

@@ -2,11 +2,12 @@
 -- is Good of its list, from any two pages.
 -- In order: what a list leaves; the image that is live in the end; the last step and its line; a whole save.
 -- Assumes nothing.
+use Rattle.std.specs.Prelude.{Option, Some, None}
+use Rattle.pages.specs.declared.Side.{Side}
 use Prim.Native.Nat.{ℕ, ◌+◌, ◌≤◌}
 use mathlib.Core.Path.{◌≡◌, refl, sym, ap, subst, ◌∙◌}
 use mathlib.Core.Bool.{Bool, true, false, ◌&&◌}
 use mathlib.Core.List.{List, [], ◌∷◌, ◌++◌, append_assoc}
-use mathlib.Core.Option.{some}
 use native.Mathlib.Omega.{arith}
 use lib.ListN.{length, drop}
 use borrow.Author.Tests.{eqb-true}
@@ -14,8 +15,6 @@ use Rattle.flash.specs.Flash.{Bytes}
 use Rattle.pages.specs.declared.Side.TheVariants.{Left, Right}
 use Rattle.pages.specs.declared.State.{State}
 use Rattle.pages.specs.declared.State.TheVariants.{S0, S1, S2, S3, S5, S6, S7, S8, S9, S10}
-use Rattle.pages.specs.declared.Live.{Live}
-use Rattle.pages.specs.declared.Live.TheVariants.{Nowhere, On}
 use Rattle.pages.specs.declared.Status.{Status}
 use Rattle.pages.specs.Pages.{on_side, line_of, live_of, status_of}
 use Rattle.pages.proofs.Laws.{line_same}
@@ -104,28 +103,28 @@ unfolding final
 decides_last current then [] ys h = h current
 decides_last current then (x ∷ xs) ys h = decides_last (switch x.commits current then) then xs ys h
 
-marks_decide : (v : Live) (then i : MaybeImage) → final i then (marks v) ≡ then
+marks_decide : (v : Option Side) (then i : MaybeImage) → final i then (marks v) ≡ then
 unfolding final
-marks_decide Nowhere then i = refl
-marks_decide (On s) then i = refl
+marks_decide None then i = refl
+marks_decide (Some s) then i = refl
 
 -- ---- the last step of a save
-abbrev last_mark : Live → Entry
-last_mark Nowhere = record { state = S2; step = mark Right 0 0x0000; commits = false }
-last_mark (On Left) = record { state = S6; step = mark Right 0 0x0000; commits = false }
-last_mark (On Right) = record { state = S10; step = mark Left 0 0x0000; commits = false }
+abbrev last_mark : Option Side → Entry
+last_mark None = record { state = S2; step = mark Right 0 0x0000; commits = false }
+last_mark (Some Left) = record { state = S6; step = mark Right 0 0x0000; commits = false }
+last_mark (Some Right) = record { state = S10; step = mark Left 0 0x0000; commits = false }
 
 -- the two marks before it
-abbrev first_marks : Live → List Entry
-first_marks Nowhere =
+abbrev first_marks : Option Side → List Entry
+first_marks None =
     committing S0 (mark Left 0 0x0000) ∷ entry S1 (mark Right 2 0xFF00) ∷ []
-first_marks (On s) =
+first_marks (Some s) =
     committing (on_side s S1 S8) (mark (other s) 0 0xFF00) ∷ entry (on_side s S5 S9) (mark s 2 0xFF00) ∷ []
 
-three_marks : (v : Live) → first_marks v ++ last_mark v ∷ [] ≡ marks v
-three_marks Nowhere = refl
-three_marks (On Left) = refl
-three_marks (On Right) = refl
+three_marks : (v : Option Side) → first_marks v ++ last_mark v ∷ [] ≡ marks v
+three_marks None = refl
+three_marks (Some Left) = refl
+three_marks (Some Right) = refl
 
 -- the steps before it
 abbrev front : State → Bool → List ℕ → List Entry
@@ -161,10 +160,10 @@ left_by step st l r l' r' e h = ap (λ (t : Tried). (status_of t.left t.right).s
 at_line : (st : State) (l r : List ℕ) → meets st (status_of l r).state ≡ true → (status_of l r).state ≡ st
 at_line st l r m = sym (line_same st (status_of l r).state (eqb-true (line_of st) (line_of (status_of l r).state) m))
 
-last_leaves : (v : Live) (l r : List ℕ) → Bytes l → Bytes r → 4 ≤ length l → 4 ≤ length r
+last_leaves : (v : Option Side) (l r : List ℕ) → Bytes l → Bytes r → 4 ≤ length l → 4 ≤ length r
     → meets (last_mark v).state (status_of l r).state ≡ true → After (last_mark v).step (settled v) l r
 unfolding tried
-last_leaves Nowhere l r bl br nl nr m =
+last_leaves None l r bl br nl nr m =
     let y = drop 4 l in
     let x = drop 4 r in
     from_row (After (mark Right 0 0x0000) S3) l r S2 bl br nl nr (at_line S2 l r m) (λ q. absurd (omega arith))
@@ -172,7 +171,7 @@ last_leaves Nowhere l r bl br nl nr m =
     (on_other Left (λ page. marked page (record { 0 = 0 }) 0x0000) (valid y) (unborn x) (dead x)
     (mark_zero 0xFF 0xFF 0x00 0xFF 0x0000 x refl))
     (ap (λ (z : Status). z.state) (at_used Left y x)))
-last_leaves (On Left) l r bl br nl nr m =
+last_leaves (Some Left) l r bl br nl nr m =
     let y = drop 4 l in
     let x = drop 4 r in
     from_row (After (mark Right 0 0x0000) S7) l r S6 bl br nl nr (at_line S6 l r m) (λ q. absurd (omega arith))
@@ -180,7 +179,7 @@ last_leaves (On Left) l r bl br nl nr m =
     (on_other Left (λ page. marked page (record { 0 = 0 }) 0x0000) (dead y) (fresh x) (valid x)
     (mark_zero 0x00 0xFF 0xFF 0xFF 0x0000 x refl))
     (ap (λ (z : Status). z.state) (at_settled Left y x)))
-last_leaves (On Right) l r bl br nl nr m =
+last_leaves (Some Right) l r bl br nl nr m =
     let x = drop 4 l in
     let y = drop 4 r in
     from_row (After (mark Left 0 0x0000) S3) l r S10 bl br nl nr (at_line S10 l r m) (λ q. absurd (omega arith))
@@ -190,18 +189,18 @@ last_leaves (On Right) l r bl br nl nr m =
     (ap (λ (z : Status). z.state) (at_settled Right y x)))
 
 -- ---- a whole save, from any two pages
-pub record Saved (v : Live) (new z y : List ℕ) : Type 0 where
-  pub image : live_image z y ≡ some new
+pub record Saved (v : Option Side) (new z y : List ℕ) : Type 0 where
+  pub image : live_image z y ≡ Some new
   pub state : (status_of z y).state ≡ settled v
 
 saves_image : (current : MaybeImage) (st : State) (erased : Bool) (new : List ℕ)
-    → final current (some new) (saving st erased new) ≡ some new
+    → final current (Some new) (saving st erased new) ≡ Some new
 unfolding saving
 saves_image current st erased new =
     let v = live_of st in
     let c = cells (clean v) (target v) first_cell new in
-    decides_last current (some new) (ready st erased) (c ++ marks v)
-    (λ i. decides_last i (some new) c (marks v) (marks_decide v (some new)))
+    decides_last current (Some new) (ready st erased) (c ++ marks v)
+    (λ i. decides_last i (Some new) c (marks v) (marks_decide v (Some new)))
 
 pub save_finishes : (l r new : List ℕ) (st : State) → Sized l r new → (status_of l r).state ≡ st
     → let t = made_all (saves_list st new l r) l r in Saved (live_of st) new t.left t.right
@@ -213,8 +212,8 @@ save_finishes l r new st z e =
     let early = front st erased new in
     let last = last_mark (live_of st) in
     let split : list ≡ early ++ last ∷ [] = all_but_last st erased new in
-    let g' : Good (live_image l r) (some new) (early ++ last ∷ []) l r =
-    subst (λ (xs : List Entry). Good (live_image l r) (some new) xs l r) split g in
+    let g' : Good (live_image l r) (Some new) (early ++ last ∷ []) l r =
+    subst (λ (xs : List Entry). Good (live_image l r) (Some new) xs l r) split g in
     let l' = (made_all early l r).left in
     let r' = (made_all early l r).right in
     let k = made_keeps early l r z.bytes_left z.bytes_right in
@@ -225,9 +224,9 @@ save_finishes l r new st z e =
     let sameLeft : length l' ≡ length l = k.0.same in
     let sameRight : length r' ≡ length r = k.1.same in
     record {
-      image = good_final (live_image l r) (some new) list l r g ∙ saves_image (live_image l r) st erased new;
+      image = good_final (live_image l r) (Some new) list l r g ∙ saves_image (live_image l r) st erased new;
       state =
           ap (λ (u : Tried). (status_of u.left u.right).state) whole
           ∙ last_leaves (live_of st) l' r' k.0.bytes k.1.bytes (omega arith) (omega arith)
-          (good_last (live_image l r) (some new) early last l r g');
+          (good_last (live_image l r) (Some new) early last l r g');
     }

@@ -3,11 +3,11 @@
 -- shows the image `then`. One lemma for each part of a walk, over the side, each from what holds after it.
 -- In order: Good; a step; the image cells; the marks; erasing; recovery; line 0.
 -- Assumes nothing.
+use Rattle.std.specs.Prelude.{Option, Some, None}
 use Prim.Native.Nat.{ℕ, suc, ◌+◌, ◌%◌}
 use mathlib.Core.Path.{◌≡◌, refl, sym, ap, subst, ◌∙◌}
 use mathlib.Core.Bool.{Bool, true, cond}
 use mathlib.Core.List.{List, [], ◌∷◌, ◌++◌, append_assoc}
-use mathlib.Core.Option.{Option, none, some}
 use native.Mathlib.Omega.{arith}
 use lib.ListN.{length, replicate, length-append}
 use borrow.Author.Tests.{eq-eqb}
@@ -16,7 +16,6 @@ use Rattle.pages.specs.declared.Side.{Side}
 use Rattle.pages.specs.declared.Side.TheVariants.{Left, Right}
 use Rattle.pages.specs.declared.State.{State}
 use Rattle.pages.specs.declared.State.TheVariants.{S0, S1, S2, S3, S5, S6, S7, S8, S9, S10}
-use Rattle.pages.specs.declared.Live.TheVariants.{Nowhere, On}
 use Rattle.pages.specs.declared.Status.{Status}
 use Rattle.pages.specs.Pages.{on_side, line_of, status_of}
 use Rattle.pages.specs.declared.ImageOffset.{ImageOffset}
@@ -159,22 +158,22 @@ abbrev Pair : (List ℕ → List ℕ → Type 0) → Side → List ℕ → List 
 Pair P s y x = P (on_side s y x) (on_side s x y)
 
 pub good_retired : (then : MaybeImage) (s : Side) (y x : List ℕ) (xs : List Entry)
-    → Pair (Good (some x) then xs) s (dead y) (valid x)
-    → Pair (Good (some x) then (entry (on_side s S6 S10) (mark (other s) 0 0x0000) ∷ xs)) s (dead y) (fresh x)
+    → Pair (Good (Some x) then xs) s (dead y) (valid x)
+    → Pair (Good (Some x) then (entry (on_side s S6 S10) (mark (other s) 0 0x0000) ∷ xs)) s (dead y) (fresh x)
 good_retired then s y x xs g =
     let h = at_retired s y x in
-    good_step (some x) then (entry (on_side s S6 S10) (mark (other s) 0 0x0000)) xs
+    good_step (Some x) then (entry (on_side s S6 S10) (mark (other s) 0 0x0000)) xs
     (on_side s (dead y) (fresh x)) (on_side s (fresh x) (dead y))
     (on_side s (dead y) (valid x)) (on_side s (valid x) (dead y))
     (shows_other s (on_side s S6 S10) 0x00 0xFF 0xFF 0xFF (dead y) x h) (ap (λ (z : Status). z.state) h)
     (mark_other s (dead y) (fresh x) (valid x) 0 0x0000 (mark_zero 0x00 0xFF 0xFF 0xFF 0x0000 x refl)) g
 
 pub good_finish : (then : MaybeImage) (s : Side) (y x : List ℕ) (xs : List Entry)
-    → Pair (Good (some x) then xs) s (dead y) (valid x)
-    → Pair (Good (some x) then (finish s xs)) s (valid y) (fresh x)
+    → Pair (Good (Some x) then xs) s (dead y) (valid x)
+    → Pair (Good (Some x) then (finish s xs)) s (valid y) (fresh x)
 good_finish then s y x xs g =
     let h = at_fresh s y x in
-    good_step (some x) then (entry (on_side s S5 S9) (mark s 2 0xFF00))
+    good_step (Some x) then (entry (on_side s S5 S9) (mark s 2 0xFF00))
     (entry (on_side s S6 S10) (mark (other s) 0 0x0000) ∷ xs)
     (on_side s (valid y) (fresh x)) (on_side s (fresh x) (valid y))
     (on_side s (dead y) (fresh x)) (on_side s (fresh x) (dead y))
@@ -183,21 +182,21 @@ good_finish then s y x xs g =
     (good_retired then s y x xs g)
 
 good_marks : (s : Side) (y new : List ℕ)
-    → Pair (Good (some y) (some new) (marks (On s))) s (valid y) (blank new)
+    → Pair (Good (Some y) (Some new) (marks (Some s))) s (valid y) (blank new)
 good_marks s y new =
     let h = at_clean s y new in
     let e = at_settled s y new in
-    good_step (some y) (some new) (committing (on_side s S1 S8) (mark (other s) 0 0xFF00)) (finish s [])
+    good_step (Some y) (Some new) (committing (on_side s S1 S8) (mark (other s) 0 0xFF00)) (finish s [])
     (on_side s (valid y) (blank new)) (on_side s (blank new) (valid y))
     (on_side s (valid y) (fresh new)) (on_side s (fresh new) (valid y))
     (shows_side s (on_side s S1 S8) 0x00 0x00 0xFF 0xFF y (blank new) h) (ap (λ (z : Status). z.state) h)
     (mark_other s (valid y) (blank new) (fresh new) 0 0xFF00 (mark_zero 0xFF 0xFF 0xFF 0xFF 0xFF00 new refl))
-    (good_finish (some new) s y new []
+    (good_finish (Some new) s y new []
     (shows_other s (on_side s S7 S3) 0x00 0x00 0xFF 0xFF (dead y) new e))
 
 -- ---- a save from a clean pair, and from a page that has to be erased
 abbrev pub onward : Side → List ℕ → List Entry
-onward s new = cells (on_side s S1 S8) (other s) first_cell new ++ marks (On s)
+onward s new = cells (on_side s S1 S8) (other s) first_cell new ++ marks (Some s)
 
 flip : (P : List ℕ → List ℕ → Type 0) (s : Side) (y x : List ℕ) → OnPages P (other s) x y → Pair P s y x
 flip P Left y x p = p
@@ -207,21 +206,21 @@ flip_back : (P : List ℕ → List ℕ → Type 0) (s : Side) (y x : List ℕ) �
 flip_back P Left y x p = p
 flip_back P Right y x p = p
 
-clean_blank : (s : Side) (y : List ℕ) → Blank (some y) (on_side s S1 S8) (other s) (valid y)
+clean_blank : (s : Side) (y : List ℕ) → Blank (Some y) (on_side s S1 S8) (other s) (valid y)
 clean_blank s y x = (
-  flip_back (λ l r. live_image l r ≡ some y) s (valid y) (blank x)
+  flip_back (λ l r. live_image l r ≡ Some y) s (valid y) (blank x)
       (shows_side s (on_side s S1 S8) 0x00 0x00 0xFF 0xFF y (blank x) (at_clean s y x)),
   flip_back (λ l r. (status_of l r).state ≡ on_side s S1 S8) s (valid y) (blank x)
       (ap (λ (z : Status). z.state) (at_clean s y x)),
 )
 
 pub good_clean : (s : Side) (y new : List ℕ) → Bytes new → length new % 2 ≡ 0
-    → Pair (Good (some y) (some new) (onward s new)) s (valid y) (blank (filler (length new)))
+    → Pair (Good (Some y) (Some new) (onward s new)) s (valid y) (blank (filler (length new)))
 good_clean s y new b even =
-    flip (Good (some y) (some new) (onward s new)) s (valid y) (blank (filler (length new)))
-    (good_cells (some y) (some new) (on_side s S1 S8) (other s) (valid y) [] new first_cell (marks (On s))
+    flip (Good (Some y) (Some new) (onward s new)) s (valid y) (blank (filler (length new)))
+    (good_cells (Some y) (Some new) (on_side s S1 S8) (other s) (valid y) [] new first_cell (marks (Some s))
     (clean_blank s y) b even refl refl
-    (flip_back (Good (some y) (some new) (marks (On s))) s (valid y) (blank new) (good_marks s y new)))
+    (flip_back (Good (Some y) (Some new) (marks (Some s))) s (valid y) (blank new) (good_marks s y new)))
 
 -- a page of the image's size is blank after an erase
 pub erasure_blank : (x : List ℕ) (n : ℕ) → length x ≡ 4 + n → erasure x ≡ blank (filler n)
@@ -231,10 +230,10 @@ erasure_blank x n e =
     ap filler k
 
 pub good_erase : (s : Side) (st : State) (y x new : List ℕ) → Bytes new → length new % 2 ≡ 0 → length x ≡ 4 + length new
-    → status_of (on_side s (valid y) x) (on_side s x (valid y)) ≡ at st (On s)
-    → Pair (Good (some y) (some new) (entry st (Erase (other s)) ∷ onward s new)) s (valid y) x
+    → status_of (on_side s (valid y) x) (on_side s x (valid y)) ≡ at st (Some s)
+    → Pair (Good (Some y) (Some new) (entry st (Erase (other s)) ∷ onward s new)) s (valid y) x
 good_erase s st y x new b even n h =
-    good_step (some y) (some new) (entry st (Erase (other s))) (onward s new)
+    good_step (Some y) (Some new) (entry st (Erase (other s))) (onward s new)
     (on_side s (valid y) x) (on_side s x (valid y))
     (on_side s (valid y) (blank (filler (length new)))) (on_side s (blank (filler (length new))) (valid y))
     (shows_side s st 0x00 0x00 0xFF 0xFF y x h) (ap (λ (z : Status). z.state) h)
@@ -242,44 +241,44 @@ good_erase s st y x new b even n h =
     (good_clean s y new b even)
 
 -- ---- line 2, and the save from line 0
-pub good_unborn : (then : MaybeImage) (y x : List ℕ) (xs : List Entry) → Good (some y) then xs (valid y) (dead x)
-    → Good (some y) then (entry S2 (mark Right 0 0x0000) ∷ xs) (valid y) (unborn x)
+pub good_unborn : (then : MaybeImage) (y x : List ℕ) (xs : List Entry) → Good (Some y) then xs (valid y) (dead x)
+    → Good (Some y) then (entry S2 (mark Right 0 0x0000) ∷ xs) (valid y) (unborn x)
 good_unborn then y x xs g =
     let h = at_unborn y x in
-    good_step (some y) then (entry S2 (mark Right 0 0x0000)) xs (valid y) (unborn x) (valid y) (dead x)
+    good_step (Some y) then (entry S2 (mark Right 0 0x0000)) xs (valid y) (unborn x) (valid y) (dead x)
     (shows_side Left S2 0x00 0x00 0xFF 0xFF y (unborn x) h) (ap (λ (z : Status). z.state) h)
     (mark_other Left (valid y) (unborn x) (dead x) 0 0x0000 (mark_zero 0xFF 0xFF 0x00 0xFF 0x0000 x refl)) g
 
-good_first_marks : (new x : List ℕ) → Good none (some new) (marks Nowhere) (blank new) (blank x)
+good_first_marks : (new x : List ℕ) → Good None (Some new) (marks None) (blank new) (blank x)
 good_first_marks new x =
     let h = at_blank new x in
     let k = at_clean Left new x in
-    good_step none (some new) (committing S0 (mark Left 0 0x0000))
+    good_step None (Some new) (committing S0 (mark Left 0 0x0000))
     (entry S1 (mark Right 2 0xFF00) ∷ entry S2 (mark Right 0 0x0000) ∷ [])
     (blank new) (blank x) (valid new) (blank x)
     (shows_none S0 (blank new) (blank x) h) (ap (λ (z : Status). z.state) h)
     (mark_on Left (blank new) (blank x) (valid new) 0 0x0000 (mark_zero 0xFF 0xFF 0xFF 0xFF 0x0000 new refl))
-    (good_step (some new) (some new) (entry S1 (mark Right 2 0xFF00)) (entry S2 (mark Right 0 0x0000) ∷ [])
+    (good_step (Some new) (Some new) (entry S1 (mark Right 2 0xFF00)) (entry S2 (mark Right 0 0x0000) ∷ [])
     (valid new) (blank x) (valid new) (unborn x)
     (shows_side Left S1 0x00 0x00 0xFF 0xFF new (blank x) k) (ap (λ (z : Status). z.state) k)
     (mark_other Left (valid new) (blank x) (unborn x) 2 0xFF00 (mark_two 0xFF 0xFF 0xFF 0xFF 0xFF00 x refl))
-    (good_unborn (some new) new x []
+    (good_unborn (Some new) new x []
     (shows_side Left S3 0x00 0x00 0xFF 0xFF new (dead x) (at_used Left new x))))
 
 abbrev pub first_onward : List ℕ → List Entry
-first_onward new = cells S0 Left first_cell new ++ marks Nowhere
+first_onward new = cells S0 Left first_cell new ++ marks None
 
 pub good_first : (new x : List ℕ) → Bytes new → length new % 2 ≡ 0
-    → Good none (some new) (first_onward new) (blank (filler (length new))) (blank x)
+    → Good None (Some new) (first_onward new) (blank (filler (length new))) (blank x)
 good_first new x b even =
-    good_cells none (some new) S0 Left (blank x) [] new first_cell (marks Nowhere)
+    good_cells None (Some new) S0 Left (blank x) [] new first_cell (marks None)
     (λ z. (shows_none S0 (blank z) (blank x) (at_blank z x), ap (λ (u : Status). u.state) (at_blank z x)))
     b even refl refl (good_first_marks new x)
 
 -- ---- spoiling: from it on no page is live
 pub good_spoil : (current then : MaybeImage) (st : State) (commits : Bool) (xs : List Entry) (l r : List ℕ) (n : ℕ)
-    → live_image l r ≡ current → (status_of l r).state ≡ st → switch commits current then ≡ none → Bytes r
-    → length l ≡ 4 + n → length r ≡ 4 + n → Good none then xs (blank (filler n)) (blank (filler n))
+    → live_image l r ≡ current → (status_of l r).state ≡ st → switch commits current then ≡ None → Bytes r
+    → length l ≡ 4 + n → length r ≡ 4 + n → Good None then xs (blank (filler n)) (blank (filler n))
     → Good current then ((record { state = st; step = mark Right 2 0x0000; commits = commits }) ∷
     (erases_both ++ xs)) l r
 good_spoil current then st commits xs l [] n h k s b p q g = absurd (omega arith)
@@ -289,14 +288,14 @@ good_spoil current then st commits xs l (a ∷ c ∷ e ∷ []) n h k s b p q g =
 good_spoil current then st commits xs l (a ∷ c ∷ e ∷ f ∷ x) n h k s b p q g =
     let spoiled = a ∷ c ∷ 0 ∷ 0 ∷ x in
     let empty = blank (filler n) in
-    let u : (z : List ℕ) → status_of z spoiled ≡ at S0 Nowhere = λ z. at_spoiled z a c x b.0 b.1.0 in
+    let u : (z : List ℕ) → status_of z spoiled ≡ at S0 None = λ z. at_spoiled z a c x b.0 b.1.0 in
     good_step current then (record { state = st; step = mark Right 2 0x0000; commits = commits }) (erases_both ++ xs)
     l (a ∷ c ∷ e ∷ f ∷ x) l spoiled h k
     (mark_other Left l (a ∷ c ∷ e ∷ f ∷ x) spoiled 2 0x0000 (spoils a c e f x))
     (subst (λ (i : MaybeImage). Good i then (erases_both ++ xs) l spoiled) (sym s)
-    (good_step none then (entry S0 (Erase Left)) (entry S0 (Erase Right) ∷ xs) l spoiled empty spoiled
+    (good_step None then (entry S0 (Erase Left)) (entry S0 (Erase Right) ∷ xs) l spoiled empty spoiled
     (shows_none S0 l spoiled (u l)) (ap (λ (z : Status). z.state) (u l))
     (erase_other Right spoiled l empty (erasure_blank l n p))
-    (good_step none then (entry S0 (Erase Right)) xs empty spoiled empty empty
+    (good_step None then (entry S0 (Erase Right)) xs empty spoiled empty empty
     (shows_none S0 empty spoiled (u empty)) (ap (λ (z : Status). z.state) (u empty))
     (erase_other Left empty spoiled empty (erasure_blank spoiled n q)) g)))

@@ -1,6 +1,7 @@
 -- Laws of the list of steps: what stands at a place.
 -- In order: the steps before the image cells, a format's steps and the marks; the places of a save's list.
 -- Not here: the length of the list (Counts.antt). Assumes nothing.
+use Rattle.std.specs.Prelude.{Option, Some}
 use Prim.Native.Nat.{ℕ, zero, suc, ◌+◌, ◌-◌, ◌*◌, ◌/◌, ◌<◌, ◌≤◌}
 use mathlib.Core.Path.{◌≡◌, refl, sym, ap, ap₂, subst, ◌∙◌}
 use mathlib.Core.Bool.{Bool, true, false, cond, ◌&&◌}
@@ -9,13 +10,10 @@ use native.Mathlib.Omega.{arith}
 use lib.ListN.{length, get_or, get_or-append}
 use Rattle.images.proofs.Overlay.{get_d_later}
 use Rattle.flash.specs.Flash.{cell_number, cell_at}
-use Rattle.flash.proofs.Laws.{and_true}
 use Rattle.pages.specs.declared.Side.{Side}
 use Rattle.pages.specs.declared.Side.TheVariants.{Left, Right}
 use Rattle.pages.specs.declared.State.{State}
 use Rattle.pages.specs.declared.State.TheVariants.{S0, S1, S2, S3, S5, S6, S7, S8, S9, S10}
-use Rattle.pages.specs.declared.Live.{Live}
-use Rattle.pages.specs.declared.Live.TheVariants.{On}
 use Rattle.pages.specs.declared.ImageOffset.{ImageOffset}
 use Rattle.pages.specs.Pages.{line_of, live_of}
 use Rattle.pages.proofs.Laws.{line_same}
@@ -23,38 +21,13 @@ use Rattle.steps.specs.declared.Step.{Step}
 use Rattle.steps.specs.declared.Step.TheVariants.{Image, Erase}
 use Rattle.plans.specs.declared.Request.TheVariants.{Save, Format}
 use Rattle.plans.specs.declared.Entry.{Entry}
-use Rattle.plans.specs.Plans.{
-  entry,
-  committing,
-  mark,
-  is_line,
-  counts,
-  ready,
-  erases_both,
-  target,
-  clean,
-  cells,
-  first_cell,
-  marks,
-  saving,
-  formatting,
-  nothing,
-}
+use Rattle.plans.specs.Plans.{entry, committing, mark, counts, ready, erases_both, target, clean, cells, first_cell, marks, saving, formatting, nothing}
 use Rattle.plans.specs.Counts.{added, format_count}
 use Rattle.plans.proofs.Counts.{ready_length, cells_length, bound}
 
 -- ---- the steps before the image cells, a format's steps and the marks
-pub on_side_lem : (live : Live) (s t : Side) → live ≡ On s → s ≡ t → live ≡ On t
-on_side_lem live s t e h = e ∙ ap On h
-
--- the erases of both pages
-pub right_erase : (k : ℕ) → k ≡ 1 → entry S0 (Erase Right) ≡ get_or erases_both k nothing
-right_erase k e = ap (λ (n : ℕ). get_or erases_both n nothing) (sym e)
-
-pub left_erase : (k : ℕ) → (k ≡ 1 → ⊥) → entry S0 (Erase Left) ≡ get_or erases_both k nothing
-left_erase zero h = refl
-left_erase (suc zero) h = absurd (h refl)
-left_erase (suc (suc k)) h = refl
+pub on_side_lem : (live : Option Side) (s t : Side) → live ≡ Some s → s ≡ t → live ≡ Some t
+on_side_lem live s t e h = e ∙ ap Some h
 
 -- what stands after the first of a list
 tail_at : (x : Entry) (xs : List Entry) (k : ℕ) → (k ≡ 0 → ⊥) → get_or xs (k - 1) nothing ≡ get_or (x ∷ xs) k nothing
@@ -77,18 +50,6 @@ head_entry S7 step e = ap (entry S7) e
 head_entry S8 step e = ap (entry S8) e
 head_entry S9 step e = ap (entry S9) e
 head_entry S10 step e = ap (entry S10) e
-
-pub ready_first : (start : State) (k : ℕ) → k ≡ 0
-    → get_or (ready start false) 0 nothing ≡ get_or (ready start false) k nothing
-ready_first start k e = ap (λ (n : ℕ). get_or (ready start false) n nothing) (sym e)
-
--- at line 0 the erases of both pages follow it
-pub ready_none : (start : State) (k : ℕ) → line_of start ≡ 0 → (k ≡ 0 → ⊥)
-    → get_or erases_both (k - 1) nothing ≡ get_or (ready start false) k nothing
-unfolding live_of
-ready_none start k e h =
-    tail_at (entry S0 (mark Right 2 0x0000)) erases_both k h
-    ∙ ap (λ (s : State). get_or (ready s false) k nothing) (line_same S0 start (sym e))
 
 -- elsewhere what follows it is the list from the next line on
 abbrev pub next_of : State → State
@@ -167,15 +128,6 @@ and_false true = refl
 and_false false = refl
 
 -- a format's steps: none where both pages are erased, else the deciding store, then the erases of both pages
-pub format_written : (start : State) (erased : Bool) → erased ≡ false → 3 ≡ format_count start erased
-format_written start erased e =
-    sym (ap (λ (t : Bool). cond t 0 3) (ap (λ (t : Bool). is_line start 0 && t) e ∙ and_false (is_line start 0)))
-
-pub format_erased : (start : State) (erased t : Bool) → erased ≡ true → is_line start 0 ≡ t
-    → cond t 0 3 ≡ format_count start erased
-format_erased start erased t e h =
-    sym (ap (λ (u : Bool). cond u 0 3) (ap₂ (λ (a b : Bool). a && b) h e ∙ and_true t))
-
 format_some : (start : State) (erased : Bool) (k : ℕ) → k < format_count start erased
     → formatting start erased ≡ formatting start false
 unfolding formatting
@@ -207,9 +159,6 @@ format_later start k h =
 pub format_at : (start : State) (erased : Bool) (k : ℕ) → k < format_count start erased
     → get_or (formatting start false) k nothing ≡ get_or (formatting start erased) k nothing
 format_at start erased k h = ap (λ (xs : List Entry). get_or xs k nothing) (sym (format_some start erased k h))
-
-pub mark_at : (live : Live) (place k : ℕ) → place ≡ k → get_or (marks live) k nothing ≡ get_or (marks live) place nothing
-mark_at live place k e = ap (λ (n : ℕ). get_or (marks live) n nothing) (sym e)
 
 -- ---- the places of a save's list
 before_seam : (xs ys : List Entry) (k : ℕ) → k < length xs → get_or (xs ++ ys) k nothing ≡ get_or xs k nothing

@@ -2,11 +2,11 @@
 -- In order: the five words as bytes; from a word and from a line to its bytes; marks; an image cell; pages by side; lines and live
 -- images of the pairs that a walk goes through; a spoiled RIGHT.
 -- Assumes nothing.
+use Rattle.std.specs.Prelude.{Option, Some, None}
 use Prim.Native.Nat.{ℕ, suc, ◌+◌, ◌%◌, ◌/◌, ◌<◌, ◌≤◌}
 use mathlib.Core.Path.{◌≡◌, refl, sym, ap, ap₂, subst, ◌∙◌}
 use mathlib.Core.Bool.{Bool, true, false, cond, ◌&&◌}
 use mathlib.Core.List.{List, [], ◌∷◌, ◌++◌}
-use mathlib.Core.Option.{none, some}
 use native.Mathlib.Nat.{mod-eq_of_lt}
 use native.Mathlib.Omega.{arith}
 use lib.Bits.{bit_and, and_comm, and_mask, and_zero_r}
@@ -20,8 +20,6 @@ use Rattle.pages.specs.declared.Side.{Side}
 use Rattle.pages.specs.declared.Side.TheVariants.{Left, Right}
 use Rattle.pages.specs.declared.State.{State}
 use Rattle.pages.specs.declared.State.TheVariants.{S0, S1, S2, S3, S5, S6, S7, S8, S9, S10}
-use Rattle.pages.specs.declared.Live.{Live}
-use Rattle.pages.specs.declared.Live.TheVariants.{Nowhere, On}
 use Rattle.pages.specs.declared.Status.{Status}
 use Rattle.pages.specs.declared.Row.{Row}
 use Rattle.pages.specs.Pages.{on_side, word_from, word_of, table, look, line_of, row_of, status_of}
@@ -155,63 +153,63 @@ on_other Left f y x z e = λ i. record { number = (e i).number; left = y; right 
 on_other Right f y x z e = λ i. record { number = (e i).number; left = (e i).bytes; right = y }
 
 -- ---- the lines of the pairs that a walk goes through, and what is live there
-abbrev pub at : State → Live → Status
+abbrev pub at : State → Option Side → Status
 at state live = record { state = state; live = live }
 
 pub at_clean : (s : Side) (y x : List ℕ)
-    → status_of (on_side s (valid y) (blank x)) (on_side s (blank x) (valid y)) ≡ at (on_side s S1 S8) (On s)
+    → status_of (on_side s (valid y) (blank x)) (on_side s (blank x) (valid y)) ≡ at (on_side s S1 S8) (Some s)
 unfolding status_of look word_of
 at_clean Left y x = refl
 at_clean Right y x = refl
 
 pub at_used : (s : Side) (y x : List ℕ)
-    → status_of (on_side s (valid y) (dead x)) (on_side s (dead x) (valid y)) ≡ at (on_side s S3 S7) (On s)
+    → status_of (on_side s (valid y) (dead x)) (on_side s (dead x) (valid y)) ≡ at (on_side s S3 S7) (Some s)
 unfolding status_of look word_of
 at_used Left y x = refl
 at_used Right y x = refl
 
 pub at_fresh : (s : Side) (y x : List ℕ)
-    → status_of (on_side s (valid y) (fresh x)) (on_side s (fresh x) (valid y)) ≡ at (on_side s S5 S9) (On (other s))
+    → status_of (on_side s (valid y) (fresh x)) (on_side s (fresh x) (valid y)) ≡ at (on_side s S5 S9) (Some (other s))
 unfolding status_of look word_of
 at_fresh Left y x = refl
 at_fresh Right y x = refl
 
 pub at_retired : (s : Side) (y x : List ℕ)
-    → status_of (on_side s (dead y) (fresh x)) (on_side s (fresh x) (dead y)) ≡ at (on_side s S6 S10) (On (other s))
+    → status_of (on_side s (dead y) (fresh x)) (on_side s (fresh x) (dead y)) ≡ at (on_side s S6 S10) (Some (other s))
 unfolding status_of look word_of
 at_retired Left y x = refl
 at_retired Right y x = refl
 
 pub at_settled : (s : Side) (y x : List ℕ)
-    → status_of (on_side s (dead y) (valid x)) (on_side s (valid x) (dead y)) ≡ at (on_side s S7 S3) (On (other s))
+    → status_of (on_side s (dead y) (valid x)) (on_side s (valid x) (dead y)) ≡ at (on_side s S7 S3) (Some (other s))
 unfolding status_of look word_of
 at_settled Left y x = refl
 at_settled Right y x = refl
 
-pub at_unborn : (y x : List ℕ) → status_of (valid y) (unborn x) ≡ at S2 (On Left)
+pub at_unborn : (y x : List ℕ) → status_of (valid y) (unborn x) ≡ at S2 (Some Left)
 unfolding status_of look word_of
 at_unborn y x = refl
 
-pub at_blank : (y x : List ℕ) → status_of (blank y) (blank x) ≡ at S0 Nowhere
+pub at_blank : (y x : List ℕ) → status_of (blank y) (blank x) ≡ at S0 None
 unfolding status_of look word_of
 at_blank y x = refl
 
 -- the live image, by side
 pub shows_side : (s : Side) (st : State) (a b c e : ℕ) (y x : List ℕ)
-    → status_of (on_side s (a ∷ b ∷ c ∷ e ∷ y) x) (on_side s x (a ∷ b ∷ c ∷ e ∷ y)) ≡ at st (On s)
-    → live_image (on_side s (a ∷ b ∷ c ∷ e ∷ y) x) (on_side s x (a ∷ b ∷ c ∷ e ∷ y)) ≡ some y
+    → status_of (on_side s (a ∷ b ∷ c ∷ e ∷ y) x) (on_side s x (a ∷ b ∷ c ∷ e ∷ y)) ≡ at st (Some s)
+    → live_image (on_side s (a ∷ b ∷ c ∷ e ∷ y) x) (on_side s x (a ∷ b ∷ c ∷ e ∷ y)) ≡ Some y
 unfolding live_image
 shows_side Left st a b c e y x h = ap (λ (z : Status). image_on z.live (a ∷ b ∷ c ∷ e ∷ y) x) h
 shows_side Right st a b c e y x h = ap (λ (z : Status). image_on z.live x (a ∷ b ∷ c ∷ e ∷ y)) h
 
 pub shows_other : (s : Side) (st : State) (a b c e : ℕ) (y x : List ℕ)
-    → status_of (on_side s y (a ∷ b ∷ c ∷ e ∷ x)) (on_side s (a ∷ b ∷ c ∷ e ∷ x) y) ≡ at st (On (other s))
-    → live_image (on_side s y (a ∷ b ∷ c ∷ e ∷ x)) (on_side s (a ∷ b ∷ c ∷ e ∷ x) y) ≡ some x
+    → status_of (on_side s y (a ∷ b ∷ c ∷ e ∷ x)) (on_side s (a ∷ b ∷ c ∷ e ∷ x) y) ≡ at st (Some (other s))
+    → live_image (on_side s y (a ∷ b ∷ c ∷ e ∷ x)) (on_side s (a ∷ b ∷ c ∷ e ∷ x) y) ≡ Some x
 unfolding live_image
 shows_other Left st a b c e y x h = ap (λ (z : Status). image_on z.live y (a ∷ b ∷ c ∷ e ∷ x)) h
 shows_other Right st a b c e y x h = ap (λ (z : Status). image_on z.live (a ∷ b ∷ c ∷ e ∷ x) y) h
 
-pub shows_none : (st : State) (l r : List ℕ) → status_of l r ≡ at st Nowhere → live_image l r ≡ none
+pub shows_none : (st : State) (l r : List ℕ) → status_of l r ≡ at st None → live_image l r ≡ None
 unfolding live_image
 shows_none st l r h = ap (λ (z : Status). image_on z.live l r) h
 
@@ -226,17 +224,17 @@ no_hit : (t : Bool) (a b : Status) → cond (t && false) a b ≡ b
 no_hit true a b = refl
 no_hit false a b = refl
 
-low_word : (xs : List Row) → All High xs → (l r : ℕ) → r < 65536 → look xs l r ≡ at S0 Nowhere
+low_word : (xs : List Row) → All High xs → (l r : ℕ) → r < 65536 → look xs l r ≡ at S0 None
 unfolding look
 low_word [] h l r k = refl
 low_word (x ∷ xs) h l r k =
     let b : 65535 < x.1 = ltb-true 65535 x.1 h.0 in
-    ap (λ (t : Bool). cond (eqb x.0 l && t) (record { state = x.2; live = On x.3 }) (look xs l r))
+    ap (λ (t : Bool). cond (eqb x.0 l && t) (record { state = x.2; live = Some x.3 }) (look xs l r))
     (ne_eqb x.1 r (λ e. omega arith))
-    ∙ no_hit (eqb x.0 l) (record { state = x.2; live = On x.3 }) (look xs l r) ∙ low_word xs h.1 l r k
+    ∙ no_hit (eqb x.0 l) (record { state = x.2; live = Some x.3 }) (look xs l r) ∙ low_word xs h.1 l r k
 
 pub at_spoiled : (l : List ℕ) (a b : ℕ) (x : List ℕ) → a < 256 → b < 256
-    → status_of l (a ∷ b ∷ 0 ∷ 0 ∷ x) ≡ at S0 Nowhere
+    → status_of l (a ∷ b ∷ 0 ∷ 0 ∷ x) ≡ at S0 None
 unfolding status_of word_of
 at_spoiled l a b x ha hb = low_word table high (word_of l) (word_from a b 0 0) (omega arith)
 

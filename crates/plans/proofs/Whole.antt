@@ -2,11 +2,12 @@
 -- In order: the pages after all steps of a list; tidying leaves line 3 or 7; a format leaves both pages erased; a page is
 -- blanked unless all its bytes are FF; each image cell stands once, and an earlier one lower.
 -- Not here: that it is safe to cut between any two steps (Good.antt, Begins.antt). Assumes nothing.
+use Rattle.std.specs.Prelude.{Option, None}
 use Prim.Native.Nat.{ℕ, ◌+◌, ◌-◌, ◌*◌, ◌/◌, ◌%◌, ◌<◌, ◌≤◌}
 use mathlib.Core.Path.{◌≡◌, refl, sym, ap, ap₂, ◌∙◌}
 use mathlib.Core.Bool.{Bool, true, false, cond, not, ◌&&◌, ◌||◌}
 use mathlib.Core.List.{List, [], ◌∷◌, ◌++◌}
-use mathlib.Core.Option.{some}
+use Rattle.std.specs.Prelude.{Some}
 use native.Mathlib.Omega.{arith}
 use lib.ListN.{length, drop}
 use Rattle.flash.specs.Flash.{Bytes, cell_at, erasure, is_erased}
@@ -15,8 +16,6 @@ use Rattle.pages.specs.declared.Side.{Side}
 use Rattle.pages.specs.declared.Side.TheVariants.{Left, Right}
 use Rattle.pages.specs.declared.State.{State}
 use Rattle.pages.specs.declared.State.TheVariants.{S0, S1, S2, S3, S5, S6, S7, S8, S9, S10}
-use Rattle.pages.specs.declared.Live.{Live}
-use Rattle.pages.specs.declared.Live.TheVariants.{Nowhere, On}
 use Rattle.pages.specs.declared.ImageOffset.{ImageOffset}
 use Rattle.pages.specs.declared.Status.{Status}
 use Rattle.pages.specs.Pages.{line_of, live_of, status_of}
@@ -44,7 +43,8 @@ use Rattle.plans.specs.Plans.{
   others_erased,
 }
 use Rattle.plans.specs.Counts.{cell_count, added}
-use Rattle.plans.specs.Spots.{entry_at, ImageCell, image_cell}
+use Rattle.plans.specs.declared.ImageCell.{ImageCell}
+use Rattle.plans.specs.Spots.{entry_at, image_cell}
 use Rattle.plans.proofs.Counts.{plan_length, ready_length}
 use Rattle.plans.proofs.Laws.{save_cell}
 use Rattle.plans.proofs.Spots.{entry_at_lem, list_cell, cell_save, save_place}
@@ -76,10 +76,10 @@ made_next x xs l r l' r' e = ap (λ (t : Tried). made_all xs t.left t.right) e
 abbrev pub line_after : Tried → ℕ
 line_after t = line_of (status_of t.left t.right).state
 
-abbrev pub tidy_line : Live → ℕ
-tidy_line Nowhere = 0
-tidy_line (On Left) = 3
-tidy_line (On Right) = 7
+abbrev pub tidy_line : Option Side → ℕ
+tidy_line None = 0
+tidy_line (Some Left) = 3
+tidy_line (Some Right) = 7
 
 abbrev Tidied : State → List ℕ → List ℕ → Type 0
 Tidied st l r = line_after (made_all (recovery st) l r) ≡ tidy_line (live_of st)
@@ -241,9 +241,9 @@ cells_quiet st s at [] = refl
 cells_quiet st s at (low ∷ []) = refl
 cells_quiet st s at (low ∷ high ∷ rest) = cells_quiet st s (record { 0 = at.0 + 2 }) rest
 
-marks_quiet : (v : Live) → has_erase (marks v) ≡ false
-marks_quiet Nowhere = refl
-marks_quiet (On s) = refl
+marks_quiet : (v : Option Side) → has_erase (marks v) ≡ false
+marks_quiet None = refl
+marks_quiet (Some s) = refl
 
 -- only what stands before the image cells blanks
 before_cells : (st : State) (erased : Bool) (new : List ℕ) → has_erase (saving st erased new) ≡ has_erase
@@ -322,7 +322,7 @@ format_blanks S10 l r = refl
 -- ---- the image cells of a save: "each image cell is programmed once, in ascending order"
 -- an image cell of a save's list, by where the steps before the cells end
 cell_place : (st : State) (erased : Bool) (new : List ℕ) (k : ℕ) (x : ImageCell)
-    → some x ≡ image_cell (entry_at (saving st erased new) k)
+    → Some x ≡ image_cell (entry_at (saving st erased new) k)
     → (x.at.0 ≡ (k - length (ready st erased)) * 2) × (length (ready st erased) ≤ k)
 cell_place st erased new k x e =
     let p = 4 + length new in
@@ -332,7 +332,7 @@ cell_place st erased new k x e =
 
 -- an earlier one lies lower
 pub earlier_lower : (st : State) (erased : Bool) (new : List ℕ) (j k : ℕ) (x y : ImageCell) → j < k
-    → some x ≡ image_cell (entry_at (saving st erased new) j) → some y ≡ image_cell (entry_at (saving st erased new) k)
+    → Some x ≡ image_cell (entry_at (saving st erased new) j) → Some y ≡ image_cell (entry_at (saving st erased new) k)
     → x.at.0 < y.at.0
 earlier_lower st erased new j k x y h e f =
     let a = cell_place st erased new j x e in
@@ -343,7 +343,7 @@ earlier_lower st erased new j k x y h e f =
 pub each_cell : (st : State) (erased : Bool) (new : List ℕ) (o : ImageOffset) → o.0 % 2 ≡ 0 → o.0 + 1 < length new
     → (k : ℕ)
     × (entry_at (saving st erased new) k
-    ≡ some (entry (clean (live_of st)) (Image (target (live_of st)) o (cell_at new o.0))))
+    ≡ Some (entry (clean (live_of st)) (Image (target (live_of st)) o (cell_at new o.0))))
 each_cell st erased new o even h =
     let n = added st erased - 3 in
     let half = o.0 / 2 in
@@ -357,6 +357,6 @@ each_cell st erased new o even h =
     let place : half ≡ k - n = omega arith in (
       k,
       entry_at_lem (saving st erased new) k (omega (arith, long, three))
-          ∙ ap some (sym (save_cell st erased new k half (omega arith) place (omega arith)))
-          ∙ (λ i. some (entry (clean (live_of st)) (Image (target (live_of st)) (offset i) (cell_at new (offset i).0)))),
+          ∙ ap Some (sym (save_cell st erased new k half (omega arith) place (omega arith)))
+          ∙ (λ i. Some (entry (clean (live_of st)) (Image (target (live_of st)) (offset i) (cell_at new (offset i).0)))),
     )

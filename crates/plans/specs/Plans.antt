@@ -7,14 +7,13 @@
 -- are the counts (proofs/Counts.antt).
 -- Not here: what a step does to the pages (the crate steps); the new image (images); beginning and
 -- stepping (walks). Assumes nothing.
+use Rattle.std.specs.Prelude.{Option, Some, None}
 use Rattle.std.specs.Prelude.{ℕ, ◌+◌, Bool, true, false, cond, ◌&&◌, ◌||◌, List, [], ◌∷◌, ◌++◌, eqb}
 use Rattle.flash.specs.Flash.{cell_number, is_erased}
 use Rattle.pages.specs.declared.Side.{Side}
 use Rattle.pages.specs.declared.Side.TheVariants.{Left, Right}
 use Rattle.pages.specs.declared.State.{State}
 use Rattle.pages.specs.declared.State.TheVariants.{S0, S1, S2, S3, S5, S6, S7, S8, S9, S10}
-use Rattle.pages.specs.declared.Live.{Live}
-use Rattle.pages.specs.declared.Live.TheVariants.{Nowhere, On}
 use Rattle.pages.specs.declared.ImageOffset.{ImageOffset}
 use Rattle.pages.specs.Pages.{on_side, line_of, live_of}
 use Rattle.steps.specs.declared.Step.{Step}
@@ -81,9 +80,9 @@ erases_both = entry S0 (Erase Left) ∷ entry S0 (Erase Right) ∷ []
 -- "2. Blank the page that isn't live, unless all its bytes are FF." "At line 0 instead: if any byte
 -- of either page isn't FF, program RIGHT cell 2 to 0000 (the spoiling step), blank LEFT, blank
 -- RIGHT."
-abbrev pub erases : State → Live → Bool → List Entry
-erases state Nowhere erased = cond erased [] (entry S0 (mark Right 2 0x0000) ∷ erases_both)
-erases state (On s) erased = cond erased [] (entry state (Erase (other s)) ∷ [])
+abbrev pub erases : State → Option Side → Bool → List Entry
+erases state None erased = cond erased [] (entry S0 (mark Right 2 0x0000) ∷ erases_both)
+erases state (Some s) erased = cond erased [] (entry state (Erase (other s)) ∷ [])
 
 -- the steps before the image cells
 abbrev pub ready : State → Bool → List Entry
@@ -91,13 +90,13 @@ ready start erased =
     recovery start ++ erases (recovered start) (live_of start) (counts Save start && erased)
 
 -- the page that is programmed: the one that isn't live, LEFT at line 0; and the line meanwhile
-abbrev pub target : Live → Side
-target Nowhere = Left
-target (On s) = other s
+abbrev pub target : Option Side → Side
+target None = Left
+target (Some s) = other s
 
-abbrev pub clean : Live → State
-clean Nowhere = S0
-clean (On s) = on_side s S1 S8
+abbrev pub clean : Option Side → State
+clean None = S0
+clean (Some s) = on_side s S1 S8
 
 -- "3. Program the C image cells of that page": "each image cell is programmed once, in ascending
 -- order, FFFF included"; from an image offset on
@@ -110,13 +109,13 @@ cells state s at (low ∷ high ∷ rest) =
 -- "4. Program its cell 0 to FF00. This is the deciding store. 5. Program cell 2 of the formerly
 -- live page to FF00, then cell 0 of the new page to 0000." At line 0: "LEFT cell 0 to 0000 (the
 -- deciding store); RIGHT cell 2 to FF00; RIGHT cell 0 to 0000."
-abbrev pub marks : Live → List Entry
-marks Nowhere =
+abbrev pub marks : Option Side → List Entry
+marks None =
     committing S0 (mark Left 0 0x0000)
     ∷ entry S1 (mark Right 2 0xFF00)
     ∷ entry S2 (mark Right 0 0x0000)
     ∷ []
-marks (On s) =
+marks (Some s) =
     committing (on_side s S1 S8) (mark (other s) 0 0xFF00)
     ∷ entry (on_side s S5 S9) (mark s 2 0xFF00)
     ∷ entry (on_side s S6 S10) (mark (other s) 0 0x0000)
@@ -127,9 +126,9 @@ abbrev pub first_cell : ImageOffset
 first_cell = record { 0 = 0 }
 
 -- "The pair is now line 7 or line 3": the line after a save, by the side that was live before it
-abbrev pub settled : Live → State
-settled Nowhere = S3
-settled (On s) = on_side s S7 S3
+abbrev pub settled : Option Side → State
+settled None = S3
+settled (Some s) = on_side s S7 S3
 
 -- "The walk of a save", begun at a line, with the new image
 unfoldable pub saving : State → Bool → List ℕ → List Entry
@@ -149,9 +148,9 @@ plan Save start erased new = saving start erased new
 plan Format start erased new = formatting start erased
 
 -- erased or not: of both pages at line 0, of the page that isn't live elsewhere
-abbrev pub others_erased : Live → List ℕ → List ℕ → Bool
-others_erased Nowhere l r = is_erased l && is_erased r
-others_erased (On s) l r = is_erased (on_side (other s) l r)
+abbrev pub others_erased : Option Side → List ℕ → List ℕ → Bool
+others_erased None l r = is_erased l && is_erased r
+others_erased (Some s) l r = is_erased (on_side (other s) l r)
 
 -- the pages' line is the line of the list
 abbrev pub meets : State → State → Bool

@@ -11,7 +11,7 @@ ghost use Rattle.plans.specs.Counts.{cell_count, added, format_count, step_count
 use pages::{ImageOffset, Side, State};
 use steps::Step;
 
-#[derive(Clone, Copy)]
+#[derive(Clone, Copy, PartialEq, Eq)]
 pub enum Request {
     Save,
     Format,
@@ -26,53 +26,51 @@ pub struct Entry {
     pub commits: bool,
 }
 
-// What stands at a place of the list: an entry; an image cell, by the line before it, the side that
-// it is programmed on and its image offset; or nothing, at the end and beyond.
+// An image cell: the side that it is programmed on and its image offset.
+#[derive(Clone, Copy)]
+pub struct ImageCell {
+    pub side: Side,
+    pub at: ImageOffset,
+}
+
+// What stands at a place of the list: an entry, or an image cell with the line before it.
 #[derive(Clone, Copy)]
 pub enum Spot {
     Fixed(Entry),
-    Cell(State, Side, ImageOffset),
-    Beyond,
+    Cell(State, ImageCell),
 }
 
-// Whether an image cell stands at a place of the list, and which: its side and its image offset.
+// A list of steps: the request, the line and erased-or-not that it begins with, and P.
 #[derive(Clone, Copy)]
-pub enum InCells {
-    At(Side, ImageOffset),
-    Outside,
+pub struct Plan {
+    pub request: Request,
+    pub start: State,
+    pub erased: bool,
+    pub page: u32,
+}
+
+impl Plan {
+    // How many steps the list has.
+    pub fn step_count(self) -> u32
+        ensures { result ≡ step_count self.request self.start self.erased self.page }
+    {
+        match self.request {
+            Request::Save => cell_count(self.page) + added_steps(self.start, self.erased),
+            Request::Format => format_steps(self.start, self.erased),
+        }
+    }
 }
 
 // ---- how many steps
 // What a save's steps are more than its image cells, 3 of them after these and the others before.
-// Every arm is a constant: compiled, that is a small table and no jump.
 pub fn added_steps(start: State, erased: bool) -> u32
     ensures { result ≡ added start erased }
 {
-    if erased {
-        return match start {
-            State::S0 => 3,
-            State::S1 => 3,
-            State::S2 => 5,
-            State::S3 => 4,
-            State::S5 => 6,
-            State::S6 => 5,
-            State::S7 => 4,
-            State::S8 => 3,
-            State::S9 => 6,
-            State::S10 => 5,
-        };
-    }
-    match start {
-        State::S0 => 6,
-        State::S1 => 4,
-        State::S2 => 5,
-        State::S3 => 4,
-        State::S5 => 6,
-        State::S6 => 5,
-        State::S7 => 4,
-        State::S8 => 4,
-        State::S9 => 6,
-        State::S10 => 5,
+    match (start, erased) {
+        (State::S0 | State::S1 | State::S8, true) => 3,
+        (State::S1 | State::S3 | State::S7 | State::S8, _) => 4,
+        (State::S2 | State::S6 | State::S10, _) => 5,
+        (State::S0 | State::S5 | State::S9, _) => 6,
     }
 }
 
@@ -80,32 +78,12 @@ pub fn added_steps(start: State, erased: bool) -> u32
 fn format_steps(start: State, erased: bool) -> u32
     ensures { result ≡ format_count start erased }
 {
-    if !erased {
-        return 3;
-    }
-    if start.line() == 0 { 0 } else { 3 }
+    if erased && start == State::S0 { 0 } else { 3 }
 }
 
 // The image cells of a page.
 pub fn cell_count(page: u32) -> u32
     ensures { result ≡ cell_count page }
 {
-    if page < pages::MANAGEMENT_SIZE {
-        return 0;
-    }
-    (page - pages::MANAGEMENT_SIZE) / 2
-}
-
-// How many steps the list has.
-pub fn step_count(request: Request, start: State, erased: bool, page: u32) -> u32
-    ensures { result ≡ step_count request start erased page }
-{
-    match request {
-        Request::Save => {
-            let cells = cell_count(page);
-            let rest = added_steps(start, erased);
-            cells + rest
-        }
-        Request::Format => format_steps(start, erased),
-    }
+    page.saturating_sub(pages::MANAGEMENT_SIZE) / 2
 }

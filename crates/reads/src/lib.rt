@@ -9,7 +9,9 @@
 ghost use Rattle.std.specs.Prelude.{◌≡◌, ◌+◌, ◌≤◌, length, take, drop};
 ghost use Rattle.flash.specs.Flash.{Outcome};
 ghost use Rattle.pages.specs.Pages.{on_side};
+ghost use Rattle.reads.specs.declared.ReadError.TheVariants.{Refused};
 ghost use Rattle.reads.specs.Reads.{
+  error_number,
   number_in,
   Located,
   found_in,
@@ -19,54 +21,53 @@ ghost use Rattle.reads.specs.Reads.{
   filled,
 };
 
-use pages::{Live, PageOffset, Side};
-use requests::{Check, Refusal};
+use pages::{PageOffset, Side};
+use requests::Refusal;
 
-// How a read is answered: the bytes are given, the request is refused, or no page is live.
-#[derive(Clone, Copy)]
-pub enum Reading {
-    Given,
+// Why a read gives nothing: the request is refused, or no page is live.
+#[derive(Clone, Copy, Debug, PartialEq, Eq)]
+pub enum ReadError {
     Refused(Refusal),
     NoLive,
 }
 
-impl Reading {
-    // Document 01's number, or 0 where the bytes are given.
+impl ReadError {
+    // Document 01's number.
     pub fn number(self) -> u8
-        ensures { result ≡ number_in self }
+        ensures { result ≡ error_number self }
     {
         match self {
-            Reading::Given => 0,
-            Reading::Refused(why) => why.number(),
-            Reading::NoLive => 5,
+            ReadError::Refused(why) => why.number(),
+            ReadError::NoLive => 5,
         }
     }
 }
 
-// Where a read finds its bytes: on a side, or nowhere.
-#[derive(Clone, Copy)]
-pub enum Found {
-    Refused(Refusal),
-    NoLive,
-    On(Side),
+impl From<Refusal> for ReadError {
+    ghost from_gives = { λ why error. error ≡ Refused why };
+
+    fn from(why: Refusal) -> ReadError {
+        ReadError::Refused(why)
+    }
 }
 
-// Where a read of so many bytes from the page offset on finds them; no byte is copied.
-pub fn locate(left: &[u8], right: &[u8], offset: PageOffset, len: usize) -> Found
+// Document 01's number for how a read is answered, or 0 where the bytes are given.
+pub fn number_of(reading: Result<(), ReadError>) -> u8
+    ensures { result ≡ number_in reading }
+{
+    match reading {
+        Ok(()) => 0,
+        Err(error) => error.number(),
+    }
+}
+
+// The side on which a read of so many bytes from the page offset on finds them; no byte is copied.
+pub fn locate(left: &[u8], right: &[u8], offset: PageOffset, len: usize) -> Result<Side, ReadError>
     ensures { ◌≡◌ {A = Located} (found_in result)
         (located left.now right.now offset len) }
 {
-    match requests::check_request(left.len(), right.len(), offset, len) {
-        Check::Refused(why) => Found::Refused(why),
-        Check::Legal => {
-            let status = table::status_of(left, right);
-            let live = status.live;
-            match live {
-                Live::Nowhere => Found::NoLive,
-                Live::On(side) => Found::On(side),
-            }
-        }
-    }
+    requests::check_request(left.len(), right.len(), offset, len)?;
+    table::status_of(left, right).live.ok_or(ReadError::NoLive)
 }
 
 // The asked bytes of the page on a side.
@@ -77,21 +78,15 @@ fn part<'a>(left: &'a [u8], right: &'a [u8], side: Side, offset: PageOffset, len
 {
     let start = offset.0 as usize;
     let end = start + len;
-    match side {
-        Side::Left => &left[start..end],
-        Side::Right => &right[start..end],
-    }
+    &side.pick(left, right)[start..end]
 }
 
 // How a read of a part is answered; no byte is copied.
-pub fn check_read(left: &[u8], right: &[u8], offset: PageOffset, len: u32) -> Reading
+pub fn check_read(left: &[u8], right: &[u8], offset: PageOffset, len: u32) -> Result<(), ReadError>
     ensures { number_in result ≡ read_number left.now right.now offset len }
 {
-    match locate(left, right, offset, len as usize) {
-        Found::Refused(why) => Reading::Refused(why),
-        Found::NoLive => Reading::NoLive,
-        Found::On(_) => Reading::Given,
-    }
+    locate(left, right, offset, len as usize)?;
+    Ok(())
 }
 
 // The asked part of the live page itself, with no copy; empty on every refusal.
@@ -100,28 +95,34 @@ pub fn read<'a>(left: &'a [u8], right: &'a [u8], offset: PageOffset, len: u32) -
 {
     let size = len as usize;
     match locate(left, right, offset, size) {
-        Found::Refused(_) => &left[0..0],
-        Found::NoLive => &left[0..0],
-        Found::On(side) => part(left, right, side, offset, size),
+        Ok(side) => part(left, right, side, offset, size),
+        Err(_) => &left[..0],
     }
 }
 
 // Fills a lent output with the bytes from the offset on, as many as it has. Numbers 1 to 4 leave it
 // as it was; 5 fills it with FF.
-pub fn read_into<'a>(left: &'a [u8], right: &'a [u8], offset: PageOffset, out: &mut [u8]) -> Reading
+pub fn read_into<'a>(
+    left: &'a [u8],
+    right: &'a [u8],
+    offset: PageOffset,
+    out: &mut [u8],
+) -> Result<(), ReadError>
     ensures { ◌≡◌ {A = Outcome} (record { number = number_in result; bytes = out.new })
         (filled left.now right.now offset out.old) }
 {
     let size = out.len();
     match locate(left, right, offset, size) {
-        Found::Refused(why) => Reading::Refused(why),
-        Found::NoLive => {
-            flash::erase(out);
-            Reading::NoLive
-        }
-        Found::On(side) => {
+        Ok(side) => {
             copies::copy(part(left, right, side, offset, size), out);
-            Reading::Given
+            Ok(())
         }
+        Err(error) => match error {
+            ReadError::Refused(why) => Err(ReadError::Refused(why)),
+            ReadError::NoLive => {
+                flash::erase(out);
+                Err(ReadError::NoLive)
+            }
+        },
     }
 }

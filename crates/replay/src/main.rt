@@ -3,197 +3,218 @@
 // prints is in docs/FORMATS.md.
 #![tactic(auto)]
 
-ghost use Rattle.std.specs.Prelude.{◌≤◌, ◌≡◌, length};
+ghost use Rattle.std.specs.Prelude.{◌≤◌};
 
-use arguments::{Name, Word};
-use copies::first;
-use loads::{Input, Source, Sourced};
+use arguments::{Argument, Name, Word};
+use loads::Source;
 use prints::Output;
+use std::fmt;
+use std::fmt::Write;
 
-// Which lines are asked for: one for a run of image cells, all, or the cuts.
+// How many bytes a script has at most, and a byte more, so that a longer one is seen.
+const ROOM: usize = 262144;
+
+const USAGE: &str = "replay [--all | --cuts] [LEFT RIGHT SCRIPT]";
+
+const USAGE_ONE: &str = "replay [--all | --cuts] --one FILE LEFT-AT RIGHT-AT LENGTH SCRIPT";
+
+// What a run is asked for: the help, the version, or a replay.
 #[derive(Clone, Copy)]
-enum Mode {
+enum Task {
+    Help,
+    Version,
+    Replay(Lines, Files),
+}
+
+// Which lines a replay has: one for a run of image cells, all, or the cuts.
+#[derive(Clone, Copy)]
+enum Lines {
     Folded,
     All,
     Cuts,
 }
 
-// ---- the run
-fn run<'a>(
-    out: &mut Output,
+// Where the pages and the script come from.
+#[derive(Clone, Copy)]
+struct Files {
     source: Source,
     script: Name,
-    text: &[u8],
-    left: &'a [u8],
-    right: &'a [u8],
-    mode: Mode,
-) {
-    match mode {
-        Mode::Folded => {
-            loads::heading(out, source, left.len());
-            timelines::run(out, text, left, right, false);
-        }
-        Mode::All => {
-            loads::heading(out, source, left.len());
-            timelines::run(out, text, left, right, true);
-        }
-        Mode::Cuts => {
-            cuts::run(out, source, script, text, left, right);
-        }
+}
+
+// ---- what is wrong
+// Why a run fails.
+#[derive(Clone, Copy)]
+enum Error<'a> {
+    Usage,
+    Arguments(arguments::Error),
+    Loads(loads::Error),
+    TooLong(Name),
+    Script(listings::Error<'a>),
+    NoWalk(Name),
+}
+
+impl From<arguments::Error> for Error<'_> {
+    fn from(error: arguments::Error) -> Self {
+        Error::Arguments(error)
     }
 }
 
-// ---- the files
-// A script without the mark with which UTF-8 may begin.
-fn without_mark(text: &[u8]) -> &[u8] {
-    if check::same(first(text, 3), b"\xEF\xBB\xBF") {
-        if 3 <= text.len() {
-            return &text[3..];
+impl From<loads::Error> for Error<'_> {
+    fn from(error: loads::Error) -> Self {
+        Error::Loads(error)
+    }
+}
+
+impl<'a> From<listings::Error<'a>> for Error<'a> {
+    fn from(error: listings::Error<'a>) -> Self {
+        Error::Script(error)
+    }
+}
+
+impl fmt::Display for Error<'_> {
+    fn fmt<W: fmt::Write>(&self, f: &mut fmt::Formatter<W>) -> fmt::Result {
+        match self {
+            Error::Usage => write!(f, "usage: {USAGE}, or {USAGE_ONE}"),
+            Error::Arguments(error) => write!(f, "{error}"),
+            Error::Loads(error) => write!(f, "{error}"),
+            Error::TooLong(script) => write!(f, "{script}: more than 262143 bytes"),
+            Error::Script(error) => write!(f, "{error}"),
+            Error::NoWalk(script) => write!(f, "{script}: no save or format in it is begun"),
         }
     }
-    text
-}
-
-// Room for a script, and a byte more.
-fn script_buffer() -> [u8; 262144]
-    ensures { 262144 ≡ length result }
-{
-    [0; 262144]
-}
-
-// Loads a script, which has fewer bytes than the buffer, and whose lines are right.
-fn load_script(out: &mut Output, name: Name, space: &mut [u8]) -> Input {
-    let Input::Bytes(size) = loads::load_file(out, name, space) else {
-        return Input::Wrong;
-    };
-    if space.len() <= size {
-        arguments::fail(out, name, b": more than 262143 bytes\n");
-        return Input::Wrong;
-    }
-    if listings::check(out, name, without_mark(first(space, size))) {
-        return Input::Bytes(size);
-    }
-    Input::Wrong
-}
-
-// Loads the script and runs it on the pages.
-fn run_pages<'a>(
-    out: &mut Output,
-    source: Source,
-    script: Name,
-    left: &'a [u8],
-    right: &'a [u8],
-    mode: Mode,
-) {
-    let mut space = script_buffer();
-    let Input::Bytes(size) = load_script(out, script, &mut space) else {
-        return;
-    };
-    run(
-        out,
-        source,
-        script,
-        without_mark(first(&space, size)),
-        left,
-        right,
-        mode,
-    );
-}
-
-fn run_files(out: &mut Output, source: Source, script: Name, mode: Mode) {
-    let mut left = loads::page_buffer();
-    let mut right = loads::page_buffer();
-    let Input::Bytes(page) = loads::load_pages(out, source, &mut left, &mut right) else {
-        return;
-    };
-    run_pages(
-        out,
-        source,
-        script,
-        first(&left, page),
-        first(&right, page),
-        mode,
-    );
 }
 
 // ---- the arguments
-// Runs with the pages that the arguments from one on name, and a script's name.
-fn run_named(out: &mut Output, one: bool, at: usize, script: usize, mode: Mode) {
-    if !arguments::names_right(out, one, at, script) {
-        return;
-    }
-    match loads::source_from(out, one, at) {
-        Sourced::Wrong => {}
-        Sourced::From(source) => run_files(out, source, Name::Argument(script), mode),
-    }
-}
-
-fn usage(out: &mut Output) {
-    prints::text(
-        out,
-        b"failed: usage: replay [--all | --cuts] [LEFT RIGHT SCRIPT], or replay [--all | --cuts] --one FILE LEFT-AT RIGHT-AT LENGTH SCRIPT\n",
-    );
-}
-
-fn help(out: &mut Output) {
-    prints::text(
-        out,
-        b"replay [--all | --cuts] [LEFT RIGHT SCRIPT]\nreplay [--all | --cuts] --one FILE LEFT-AT RIGHT-AT LENGTH SCRIPT\n  a script of calls and power cuts on copies of two dumps of pages\n",
-    );
-    prints::text(
-        out,
-        b"  --all: every step has its lines; --cuts: the last save or format is cut after each of its steps\n  --one: both pages are in FILE, LENGTH bytes each, from the bytes LEFT-AT and RIGHT-AT on\n",
-    );
-    prints::text(
-        out,
-        b"  a file - is standard input; with no files the sample in samples/ is replayed\n  a line of SCRIPT: save OFFSET HEX, format, step, step N, step all, step with HEX,\n  read OFFSET LENGTH, copy OFFSET LENGTH, cut; # and what follows is a comment\nok: help\n",
-    );
-}
-
-// Runs with files from an argument on, or with the sample.
-fn run_plain(out: &mut Output, at: usize, count: usize, mode: Mode)
-    requires { at ≤ 2 }
-{
-    if count <= at {
-        run_files(out, loads::story(), Name::StoryScript, mode);
-    } else if count == at + 3 {
-        run_named(out, false, at, at + 2, mode);
-    } else {
-        usage(out);
-    }
-}
-
-// Runs with the arguments from one on, of so many.
-fn run_from(out: &mut Output, at: usize, count: usize, mode: Mode)
-    requires { at ≤ 2 }
-{
-    match arguments::option(out.runtime(), at) {
-        Word::Plain => run_plain(out, at, count, mode),
-        Word::One => {
-            if count == at + 6 {
-                run_named(out, true, at + 1, at + 5, mode);
-            } else {
-                usage(out);
-            }
+impl Files {
+    // The files that the arguments from one on name, or the sample where there are no more.
+    fn from_arguments<'a>(rt: HostRuntime, at: usize) -> Result<Files, Error<'a>>
+        requires { at ≤ 2 }
+    {
+        let count = arguments::count(rt);
+        let first = Argument { rt, at };
+        match first.word() {
+            Word::Plain if count <= at => Ok(Files {
+                source: Source::story(),
+                script: Name::Sample("samples/story.txt"),
+            }),
+            Word::Plain if count == at + 3 => Ok(Files {
+                source: Source::files(rt, at, Some(at + 2))?,
+                script: Name::Argument(Argument { rt, at: at + 2 }),
+            }),
+            Word::One if count == at + 6 => Ok(Files {
+                source: Source::parts(rt, at + 1, Some(at + 5))?,
+                script: Name::Argument(Argument { rt, at: at + 5 }),
+            }),
+            Word::Plain | Word::One => Err(Error::Usage),
+            _ => Err(arguments::Error::UnknownOption(first).into()),
         }
-        _ => arguments::fail_option(out, at),
     }
 }
 
-fn run_arguments(out: &mut Output) {
-    let count = arguments::count(out.runtime());
-    match arguments::option(out.runtime(), 1) {
-        Word::Help => help(out),
-        Word::Version => arguments::print_version(out),
-        Word::Crowded => usage(out),
-        Word::All => run_from(out, 2, count, Mode::All),
-        Word::Cuts => run_from(out, 2, count, Mode::Cuts),
-        _ => run_from(out, 1, count, Mode::Folded),
+impl Task {
+    fn from_arguments<'a>(rt: HostRuntime) -> Result<Task, Error<'a>> {
+        let first = Argument { rt, at: 1 };
+        match first.word() {
+            Word::Help => Ok(Task::Help),
+            Word::Version => Ok(Task::Version),
+            Word::Crowded => Err(Error::Usage),
+            Word::All => Ok(Task::Replay(Lines::All, Files::from_arguments(rt, 2)?)),
+            Word::Cuts => Ok(Task::Replay(Lines::Cuts, Files::from_arguments(rt, 2)?)),
+            _ => Ok(Task::Replay(Lines::Folded, Files::from_arguments(rt, 1)?)),
+        }
+    }
+}
+
+// ---- the run
+// Loads a script, whose lines are right, without the mark with which UTF-8 may begin.
+fn load_script(rt: HostRuntime, script: Name, room: &mut [u8]) -> Result<&[u8], Error<'_>> {
+    let bytes = loads::load_file(rt, script, room)?;
+    if ROOM <= bytes.len() {
+        return Err(Error::TooLong(script));
+    }
+    let text = bytes.strip_prefix(b"\xEF\xBB\xBF").unwrap_or(bytes);
+    listings::check(script, text)?;
+    Ok(text)
+}
+
+// Loads the pages and the script, and runs it on the pages.
+fn replay<'a>(
+    out: &mut Output,
+    lines: Lines,
+    files: Files,
+    room: &'a mut [u8],
+) -> Result<(), Error<'a>> {
+    let rt = out.runtime();
+    let Files { source, script } = files;
+    let mut left_room = loads::page_buffer();
+    let mut right_room = loads::page_buffer();
+    let (left, right) = source.load(rt, &mut left_room, &mut right_room)?;
+    let text = load_script(rt, script, room)?;
+    let all = match lines {
+        Lines::Folded => false,
+        Lines::All => true,
+        Lines::Cuts => {
+            return match cuts::run(out, source, text, left, right) {
+                Some(_) => Ok(()),
+                None => Err(Error::NoWalk(script)),
+            };
+        }
+    };
+    let _ = write!(out, "{source}\nP = {}", left.len());
+    timelines::run(out, text, left, right, all);
+    Ok(())
+}
+
+fn print_help(out: &mut Output) -> fmt::Result {
+    writeln!(out, "{USAGE}")?;
+    writeln!(out, "{USAGE_ONE}")?;
+    writeln!(
+        out,
+        "  a script of calls and power cuts on copies of two dumps of pages"
+    )?;
+    writeln!(
+        out,
+        "  --all: every step has its lines; --cuts: the last save or format is cut after each of its steps"
+    )?;
+    writeln!(
+        out,
+        "  --one: both pages are in FILE, LENGTH bytes each, from the bytes LEFT-AT and RIGHT-AT on"
+    )?;
+    writeln!(
+        out,
+        "  a file - is standard input; with no files the sample in samples/ is replayed"
+    )?;
+    writeln!(
+        out,
+        "  a line of SCRIPT: save OFFSET HEX, format, step, step N, step all, step with HEX,"
+    )?;
+    writeln!(
+        out,
+        "  read OFFSET LENGTH, copy OFFSET LENGTH, cut; # and what follows is a comment"
+    )?;
+    writeln!(out, "ok: help")
+}
+
+// What is printed goes to an `Output`, which never fails, so its results are passed over.
+fn run<'a>(out: &mut Output, room: &'a mut [u8]) -> Result<(), Error<'a>> {
+    match Task::from_arguments(out.runtime())? {
+        Task::Help => {
+            let _ = print_help(out);
+            Ok(())
+        }
+        Task::Version => {
+            let _ = arguments::print_version(out);
+            Ok(())
+        }
+        Task::Replay(lines, files) => replay(out, lines, files, room),
     }
 }
 
 fn main(rt: HostRuntime) {
     let mut out = Output::new(rt);
-    run_arguments(&mut out);
-    prints::flush(&mut out);
+    let mut room = [0; ROOM];
+    if let Err(error) = run(&mut out, &mut room) {
+        let _ = writeln!(out, "failed: {error}");
+    }
+    out.flush();
 }

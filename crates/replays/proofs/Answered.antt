@@ -5,19 +5,20 @@ use Prim.Native.Nat.{ℕ, zero, suc, ◌+◌, ◌-◌}
 use mathlib.Core.Path.{◌≡◌, refl, sym, ap, ◌∙◌}
 use mathlib.Core.Bool.{Bool, true, false, cond, ◌&&◌}
 use mathlib.Core.List.{List, [], ◌∷◌}
-use mathlib.Core.Option.{Option, none, some}
 use native.Mathlib.Omega.{arith}
 use mir.Syntax.{w8}
 use mir.Val.{Fits}
 use lib.Dec.{eqb, ltb, leb}
 use lib.ListN.{length, get_or, drop}
+use Rattle.std.specs.Prelude.{Option, None, Some, Err, Ok}
 use Rattle.flash.specs.Flash.{Bytes}
 use Rattle.plans.proofs.Bytes.{bytes_take, bytes_drop}
 use Rattle.model.specs.Calls.{Answer}
 use Rattle.model.specs.Board.{Board, powered, answers, board_after}
 use Rattle.model.specs.Orders.{Order, calls_from, true_answers}
 use Rattle.model.proofs.Orders.{ByteOrder, ByteOrders, orders_book}
-use Rattle.scripts.specs.declared.Verdict.{Verdict}
+use Rattle.scripts.specs.declared.ScriptError.{ScriptError}
+use Rattle.scripts.specs.declared.ScriptError.TheVariants.{Malformed, NoRoom}
 use Rattle.scripts.specs.Scripts.{
   First,
   number_at,
@@ -38,7 +39,6 @@ use Rattle.scripts.specs.Scripts.{
   checked,
 }
 use Rattle.scripts.proofs.Laws.{cond_keeps}
-use Rattle.replays.specs.declared.Replayed as R
 use Rattle.replays.specs.Answers.{encoded}
 use Rattle.replays.specs.Replays.{report_in, Outcome, refused, on_findings, replayed}
 use Rattle.replays.specs.Runs.{Written, written, Run, running, orders_of}
@@ -52,8 +52,8 @@ bytes_of [] h = tt
 bytes_of (x ∷ xs) h = ((h 0).fits, bytes_of xs (λ i. h (suc i)))
 
 abbrev ByteFirst : Option First → Type 0
-ByteFirst none = Unit {0}
-ByteFirst (some f) = ByteOrder f.order
+ByteFirst None = Unit {0}
+ByteFirst (Some f) = ByteOrder f.order
 
 kind_bytes : (kind a b : ℕ) (own : List ℕ) → Bytes own → ByteFirst (kind_of kind a b own)
 unfolding kind_of
@@ -80,8 +80,8 @@ before_bytes x (no_room at) h k = tt
 
 judged_bytes : (f : Option First) (at room : ℕ) (rest : Findings) → ByteFirst f → ByteOrders (orders_of rest)
     → ByteOrders (orders_of (judged f at room rest))
-judged_bytes none at room rest h k = tt
-judged_bytes (some f) at room rest h k = go (ltb room f.room)
+judged_bytes None at room rest h k = tt
+judged_bytes (Some f) at room rest h k = go (ltb room f.room)
   where
     go : (t : Bool) → ByteOrders (orders_of (cond t (no_room at) (before f.order rest)))
     go true = tt
@@ -103,7 +103,7 @@ pub replay_done : (l r s out out₁ : List ℕ) (at : ℕ) (board : Board) → B
     (running (orders_of (checked s (length out)))
     (record { board = powered l r; output = record { out = out; at = 0 } }))
     → ◌≡◌ {A = Outcome}
-    (record { report = report_in (R.TheVariants.Done at); left = board.left; right = board.right; out = out₁ })
+    (record { report = report_in (Ok at); left = board.left; right = board.right; out = out₁ })
     (replayed l r s out)
 unfolding replayed
 replay_done l r s out out₁ at board hl hr hs v ran =
@@ -138,10 +138,12 @@ refused_as (orders xs) l r out h = absurd (h refl)
 refused_as (malformed at) l r out h = refl
 refused_as (no_room at) l r out h = refl
 
-pub replay_refused : (l r s out : List ℕ) (v w : Verdict) → verdict_in v ≡ found (checked s (length out)) → v ≡ w
-    → ((verdict_in w).status ≡ 0 → ⊥) → as_found l r out (verdict_in w) ≡ replayed l r s out
+pub replay_refused : (l r s out : List ℕ) (e : ScriptError) → verdict_in (Err e) ≡ found (checked s (length out))
+    → ◌≡◌ {A = Outcome} (record { report = report_in (Err e); left = l; right = r; out = out }) (replayed l r s out)
 unfolding replayed
-replay_refused l r s out v w e f h =
-    let x : verdict_in w ≡ found (checked s (length out)) = sym (ap verdict_in f) ∙ e in
-    ap (as_found l r out) x
-    ∙ refused_as (checked s (length out)) l r out (λ z. h (ap (λ (y : Report). y.status) x ∙ z))
+replay_refused l r s out (Malformed at) h =
+    ap (as_found l r out) h
+    ∙ refused_as (checked s (length out)) l r out (λ z. absurd (omega (arith, ap (λ (y : Report). y.status) h)))
+replay_refused l r s out (NoRoom at) h =
+    ap (as_found l r out) h
+    ∙ refused_as (checked s (length out)) l r out (λ z. absurd (omega (arith, ap (λ (y : Report). y.status) h)))

@@ -1,78 +1,44 @@
 -- The calls of an item, and what the engine gives for them.
 -- In order: its calls; what they give.
 -- Assumes nothing.
-use Prim.Native.Nat.{ℕ, ◌+◌}
-use mathlib.Core.Path.{◌≡◌, refl, sym, ap, ◌∙◌}
+use Rattle.std.specs.Prelude.{Option}
+use Rattle.walks.specs.declared.Walk.{Walk}
+use Prim.Native.Nat.{ℕ}
+use mathlib.Core.Path.{◌≡◌, refl}
 use mathlib.Core.Bool.{Bool, true, false, cond}
 use mathlib.Core.List.{List, []}
-use mathlib.Core.Option.{Option, none, some}
 use lib.Dec.{eqb}
-use lib.ListN.{length, replicate}
+use lib.ListN.{length}
 use Rattle.reads.specs.Reads.{read_number, read_part}
 use Rattle.walks.specs.Walks as W
 use Rattle.walks.specs.Walks.{Beginning, begin_save, begin_format}
 use Rattle.model.specs.Calls as C
-use Rattle.model.specs.Board as B
-use Rattle.model.specs.Board.{Board, after_begin, turn, answers, board_after}
+use Rattle.model.specs.Board.{Board, after_begin, turn}
 use Rattle.model.specs.Orders.{held_in, calls_of}
-use Rattle.boards.specs.declared.Hand.{Hand}
-use Rattle.boards.specs.declared.Hand.TheVariants.{Empty, Holding}
 use Rattle.boards.specs.declared.Call as L
 use Rattle.boards.specs.declared.Turn.{Turn}
-use Rattle.boards.specs.Boards.{hand_in, calls_in, turn_in, made_on}
+use Rattle.boards.specs.Boards.{hand_in, board_in, calls_in, turn_in, made_on}
 use Rattle.scripts.specs.declared.Item.{Item}
-use Rattle.scripts.specs.declared.Item.TheVariants.{
-  Save,
-  Format,
-  Steps,
-  StepWith,
-  Read,
-  ReadInto,
-  Cut,
-  Malformed,
-}
-use Rattle.scripts.specs.Scripts.{First, item_in}
-use Rattle.replays.specs.declared.Span.{Span}
-use Rattle.replays.specs.declared.Job.{Job}
-use Rattle.replays.specs.Answers.{encoded}
-use Rattle.replays.specs.Runs.{span_in, board_of, held_span, job_in, Run, made, followed}
-use Rattle.replays.proofs.Output.{written_none, nil_of}
+use Rattle.scripts.specs.declared.Item.TheVariants.{Save, Format, Steps, StepWith, Read, ReadInto, Cut}
+use Rattle.scripts.specs.Scripts.{item_in}
+use Rattle.replays.specs.Runs.{Making, making_of}
+use Rattle.replays.proofs.Output.{nil_of}
 use Rattle.replays.proofs.Turns.{plain, Done, one_done, steps_done, into_done}
 
 -- ---- its calls
-abbrev pub first_calls : Option B.Hand → Option First → List C.Call
-first_calls hand none = []
-first_calls hand (some f) = calls_of hand f.order
+abbrev pub calls_here : Making → List C.Call
+calls_here job = calls_in job.call job.bytes job.output
 
-pub follows : (f : Option First) (x : Run) → followed f x ≡ made (first_calls x.board.hand f) x
-unfolding answers board_after encoded
-follows none x = λ i. record { board = x.board; output = written_none x.output.out x.output.at i }
-follows (some f) x = refl
-
--- the item that the code looks at
-pub job_here : (item x : Item) (start : ℕ) (span here : Span) (job : Job) → item ≡ x → span ≡ here
-    → job ≡ job_in x start span → job ≡ job_in item start here
-job_here item x start span here job e es ej = ej ∙ (λ i. job_in (sym e i) start (es i))
-
-held_here : (s : List ℕ) (hand : Hand) (held : Span)
-    → span_in s (held_span hand held) ≡ held_in (hand_in hand (span_in s held))
-held_here s Empty held = refl
-held_here s (Holding w) held = refl
-
-abbrev pub calls_here : List ℕ → Job → List C.Call
-calls_here s job = calls_in job.call (span_in s job.bytes) (span_in s job.output)
-
-job_calls : (s : List ℕ) (place : ℕ) (hand : Hand) (held : Span) (item : Item)
-    → calls_here s (job_in item (place + 9) (held_span hand held))
-    ≡ first_calls (hand_in hand (span_in s held)) (item_in s place item)
-job_calls s place hand held (Save o n) = refl
-job_calls s place hand held Format = refl
-job_calls s place hand held (Steps n) = ap (λ (d : List ℕ). replicate n (C.step d)) (held_here s hand held)
-job_calls s place hand held (StepWith n) = refl
-job_calls s place hand held (Read o n) = refl
-job_calls s place hand held (ReadInto o n) = refl
-job_calls s place hand held Cut = refl
-job_calls s place hand held Malformed = refl
+-- they are those of the script
+pub item_calls : (hand : Option Walk) (held : List ℕ) (item : Item)
+    → calls_here (making_of item (held_in (hand_in hand held))) ≡ calls_of (hand_in hand held) (item_in item).order
+item_calls hand held (Save o d) = refl
+item_calls hand held Format = refl
+item_calls hand held (Steps n) = refl
+item_calls hand held (StepWith d) = refl
+item_calls hand held (Read o n) = refl
+item_calls hand held (ReadInto o out) = refl
+item_calls hand held Cut = refl
 
 -- ---- what they give
 begun_plain : (b : Board) (d : List ℕ) (x : Beginning) → plain (after_begin b d x).answer ≡ true
@@ -83,45 +49,32 @@ part_plain : (n : ℕ) (part : List ℕ) (t : Bool) → plain (cond t (C.bytes p
 part_plain n part true = refl
 part_plain n part false = refl
 
-abbrev pub Promised : List ℕ → Job → Turn → Hand → Span → List ℕ → List ℕ → List ℕ → List ℕ → List ℕ → Type 0
-Promised s job t hand held l r l' r' out =
-    turn_in job.call t (span_in s held) (span_in s job.bytes) l' r' out
-    ≡ made_on job.call (board_of s hand held l r) (span_in s job.bytes) (span_in s job.output)
+abbrev pub Promised : Making → Turn → Option Walk → List ℕ → List ℕ → List ℕ → List ℕ → List ℕ → List ℕ → Type 0
+Promised job t hand held l r l' r' out =
+    turn_in job.call t held job.bytes l' r' out ≡ made_on job.call (board_in hand held l r) job.bytes job.output
 
-pub job_done : (s : List ℕ) (start : ℕ) (span held : Span) (t : Turn) (hand : Hand) (l r l' r' out : List ℕ)
-    (item : Item)
-    → (let job = job_in item start span in
-    length out ≡ length (span_in s job.output) → Promised s job t hand held l r l' r' out
-    → Done s job t (board_of s hand held l r) held l' r' out)
+pub job_done : (item : Item) (d : List ℕ) (t : Turn) (hand : Option Walk) (held l r l' r' out : List ℕ)
+    → (let job = making_of item d in
+    length out ≡ length job.output → Promised job t hand held l r l' r' out
+    → Done job t (board_in hand held l r) held l' r' out)
 unfolding turn
-job_done s start span held t hand l r l' r' out (Save o n) k e =
-    let own : Span = record { start = start; len = n } in
-    let b = board_of s hand held l r in
-    let d = span_in s own in
-    one_done s (L.TheVariants.Save o) own held t b (C.save o d) l' r' out refl refl
-    (begun_plain b d (begin_save l r o d)) refl (nil_of out k) e
-job_done s start span held t hand l r l' r' out Format k e =
-    let b = board_of s hand held l r in
-    one_done s L.TheVariants.Format _ held t b C.format l' r' out refl refl (begun_plain b [] (begin_format l r)) refl
+job_done (Save o own) d t hand held l r l' r' out k e =
+    let b = board_in hand held l r in
+    one_done (L.TheVariants.Save o) own.now held t b (C.save o own.now) l' r' out refl refl
+    (begun_plain b own.now (begin_save l r o own.now)) refl (nil_of out k) e
+job_done Format d t hand held l r l' r' out k e =
+    let b = board_in hand held l r in
+    one_done L.TheVariants.Format [] held t b C.format l' r' out refl refl (begun_plain b [] (begin_format l r)) refl
     (nil_of out k) e
-job_done s start span held t hand l r l' r' out (Steps n) k e =
-    steps_done s n span held t hand l r l' r' out (nil_of out k) e
-job_done s start span held t hand l r l' r' out (StepWith n) k e =
-    steps_done s 1 (record { start = start; len = n }) held t hand l r l' r' out (nil_of out k) e
-job_done s start span held t hand l r l' r' out (Read o n) k e =
+job_done (Steps n) d t hand held l r l' r' out k e = steps_done n d held t hand l r l' r' out (nil_of out k) e
+job_done (StepWith own) d t hand held l r l' r' out k e =
+    steps_done 1 own.now held t hand l r l' r' out (nil_of out k) e
+job_done (Read o n) d t hand held l r l' r' out k e =
     let m = read_number l r o n in
-    one_done s (L.TheVariants.Read o n) _ held t (board_of s hand held l r) (C.read o n) l' r' out refl refl
+    one_done (L.TheVariants.Read o n) [] held t (board_in hand held l r) (C.read o n) l' r' out refl refl
     (part_plain m (read_part l r o n) (eqb m 0)) refl (nil_of out k) e
-job_done s start span held t hand l r l' r' out (ReadInto o n) k e =
-    into_done s o (record { start = start; len = n }) held t (board_of s hand held l r) l' r' out e
-job_done s start span held t hand l r l' r' out Cut k e =
-    one_done s L.TheVariants.Cut _ held t (board_of s hand held l r) C.cut l' r' out refl refl refl refl
+job_done (ReadInto o given) d t hand held l r l' r' out k e =
+    into_done o given.now held t (board_in hand held l r) l' r' out e
+job_done Cut d t hand held l r l' r' out k e =
+    one_done L.TheVariants.Cut [] held t (board_in hand held l r) C.cut l' r' out refl refl refl refl
     (nil_of out k) e
-job_done s start span held t hand l r l' r' out Malformed k e =
-    steps_done s 0 _ held t hand l r l' r' out (nil_of out k) e
-
--- its calls are those of the script
-pub item_calls : (s : List ℕ) (place : ℕ) (held : Span) (job : Job) (hand : Hand) (item : Item)
-    → job ≡ job_in item (place + 9) (held_span hand held)
-    → calls_here s job ≡ first_calls (hand_in hand (span_in s held)) (item_in s place item)
-item_calls s place held job hand item ej = ap (calls_here s) ej ∙ job_calls s place hand held item

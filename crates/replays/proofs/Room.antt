@@ -1,11 +1,11 @@
 -- Answers never take more than the room that the script's check keeps for them.
 -- In order: answers of one byte; reads; the answers of an item; an output that is lent.
 -- Assumes nothing.
+use Rattle.std.specs.Prelude.{Option, Some, None}
 use Prim.Native.Nat.{ℕ, zero, suc, ◌+◌, ◌≤◌}
 use mathlib.Core.Path.{◌≡◌, refl, ap}
 use mathlib.Core.Bool.{Bool, true, false, cond}
 use mathlib.Core.List.{List, [], ◌∷◌, ◌++◌, append-nil}
-use mathlib.Core.Option.{Option, none, some}
 use native.Mathlib.Omega.{arith}
 use lib.Dec.{eqb, leb}
 use lib.ListN.{length, take, drop, replicate, length-append, length-take}
@@ -23,7 +23,7 @@ use Rattle.model.specs.Calls.{Call}
 use Rattle.model.specs.Calls as C
 use Rattle.model.specs.Board as B
 use Rattle.model.specs.Board.{Board, after_begin, answer_of, handed, step_hand, turn, answers}
-use Rattle.model.specs.Orders.{held_in}
+use Rattle.model.specs.Orders.{held_in, calls_of}
 use Rattle.scripts.specs.declared.Item.{Item}
 use Rattle.scripts.specs.declared.Item.TheVariants.{
   Save,
@@ -33,13 +33,10 @@ use Rattle.scripts.specs.declared.Item.TheVariants.{
   Read,
   ReadInto,
   Cut,
-  Malformed,
 }
-use Rattle.scripts.specs.Scripts.{item_in, part_room, room_of}
-use Rattle.replays.specs.declared.Span.{Span}
+use Rattle.scripts.specs.Scripts.{item_in, part_room}
 use Rattle.replays.specs.Answers.{answer_bytes, encoded}
-use Rattle.replays.specs.Runs.{span_in, job_in}
-use Rattle.replays.proofs.Items.{first_calls}
+use Rattle.replays.specs.Runs.{making_of}
 
 -- how many bytes a call is answered by
 abbrev size : Board → Call → ℕ
@@ -60,8 +57,8 @@ unfolding turn
 step_one b d = go b.hand
   where
     go : (hand : Option B.Hand) → length (answer_bytes (step_hand b hand d).answer) ≡ 1
-    go none = refl
-    go (some h) = said_one (step_of h.walk b.left b.right (handed h.held d)).said
+    go None = refl
+    go (Some h) = said_one (step_of h.walk b.left b.right (handed h.held d)).said
 
 steps_size : (n : ℕ) (b : Board) (d : List ℕ) → length (encoded (answers b (replicate n (C.step d)))) ≡ n
 unfolding answers encoded
@@ -148,35 +145,26 @@ single b c room h =
     let e : length (answer_bytes (turn b c).answer ++ []) ≡ size b c = ap length (append-nil bytes) in
     omega arith
 
-pub item_fits : (s : List ℕ) (at : ℕ) (b : Board) (x : Item)
-    → length (encoded (answers b (first_calls b.hand (item_in s at x)))) ≤ room_of (item_in s at x)
+pub item_fits : (b : Board) (x : Item)
+    → length (encoded (answers b (calls_of b.hand (item_in x).order))) ≤ (item_in x).room
 unfolding turn answers encoded
-item_fits s at b (Save o n) =
-    let d = take n (drop (at + 9) s) in
-    let e = begin_one b d (begin_save b.left b.right o d) in
-    single b (C.save o d) 1 (omega arith)
-item_fits s at b Format =
-    let e = begin_one b [] (begin_format b.left b.right) in single b C.format 1 (omega arith)
-item_fits s at b (Steps n) = let e = steps_size n b (held_in b.hand) in omega arith
-item_fits s at b (StepWith n) = let e = steps_size 1 b (take n (drop (at + 9) s)) in omega arith
-item_fits s at b (Read o n) = single b (C.read o n) (part_room n) (read_size b o n)
-item_fits s at b (ReadInto o n) =
-    let d = take n (drop (at + 9) s) in
-    let h = into_size b o d in
-    let k : length d ≤ n = take_most n (drop (at + 9) s) in
-    single b (C.read_into o d) (2 + n) (omega arith)
-item_fits s at b Cut = single b C.cut 1 (omega arith)
-item_fits s at b Malformed = omega arith
+item_fits b (Save o d) =
+    let e = begin_one b d.now (begin_save b.left b.right o d.now) in single b (C.save o d.now) 1 (omega arith)
+item_fits b Format = let e = begin_one b [] (begin_format b.left b.right) in single b C.format 1 (omega arith)
+item_fits b (Steps n) = let e = steps_size n b (held_in b.hand) in omega arith
+item_fits b (StepWith d) = let e = steps_size 1 b d.now in omega arith
+item_fits b (Read o n) = single b (C.read o n) (part_room n) (read_size b o n)
+item_fits b (ReadInto o out) = single b (C.read_into o out.now) (2 + length out.now) (into_size b o out.now)
+item_fits b Cut = single b C.cut 1 (omega arith)
 
 -- ---- an output that is lent
 -- it has room behind the bytes before it
-pub lends : (s : List ℕ) (place start at m : ℕ) (span : Span) (item : Item) → at + room_of (item_in s place item) ≤ m
-    → let job = job_in item start span in at + job.lead + length (span_in s job.output) ≤ m
-lends s place start at m span (Save o n) h = omega arith
-lends s place start at m span Format h = omega arith
-lends s place start at m span (Steps n) h = omega arith
-lends s place start at m span (StepWith n) h = omega arith
-lends s place start at m span (Read o n) h = omega arith
-lends s place start at m span (ReadInto o n) h = let k = take_most n (drop start s) in omega arith
-lends s place start at m span Cut h = omega arith
-lends s place start at m span Malformed h = omega arith
+pub lends : (at m : ℕ) (held : List ℕ) (item : Item) → at + (item_in item).room ≤ m
+    → let job = making_of item held in at + job.lead + length job.output ≤ m
+lends at m held (Save o d) h = omega arith
+lends at m held Format h = omega arith
+lends at m held (Steps n) h = omega arith
+lends at m held (StepWith d) h = omega arith
+lends at m held (Read o n) h = omega arith
+lends at m held (ReadInto o out) h = omega arith
+lends at m held Cut h = omega arith

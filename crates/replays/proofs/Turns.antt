@@ -1,26 +1,24 @@
 -- Calls through the engine, and their answers as bytes.
 -- In order: the bytes of answers; what the engine promises; a call of one answer; steps; a read into an output.
 -- Assumes nothing.
+use Rattle.std.specs.Prelude.{Option, Some, None}
+use Rattle.walks.specs.declared.Walk.{Walk}
 use Prim.Native.Nat.{ℕ, zero, suc, ◌-◌, ◌<◌, ◌≤◌}
 use mathlib.Core.Path.{◌≡◌, refl, sym, ap, subst, ◌∙◌}
 use mathlib.Core.Bool.{Bool, true, false, cond}
 use mathlib.Core.List.{List, [], ◌∷◌, ◌++◌, append-nil, append_assoc}
 use mathlib.Core.Logic.{◌⊎◌, inl, inr}
-use mathlib.Core.Option.{Option, none, some}
 use native.Mathlib.Omega.{arith}
 use lib.Dec.{eqb}
-use lib.ListN.{length, take, drop, replicate, length-append, length-replicate}
-use borrow.Author.Tests.{eq-eqb, ne_eqb, eqb-true, eqb-false}
+use lib.ListN.{length, replicate, length-append, length-replicate}
+use borrow.Author.Tests.{eqb-true, eqb-false}
 use Rattle.pages.specs.declared.PageOffset.{PageOffset}
-use Rattle.pages.specs.Pages.{status_of}
-use Rattle.reads.specs.Reads.{live_page, read_number, read_part, filled}
+use Rattle.reads.specs.Reads.{read_part, filled}
 use Rattle.walks.specs.Walks as W
 use Rattle.walks.specs.Walks.{Said, step_of}
 use Rattle.model.specs.Calls as C
 use Rattle.model.specs.Board as B
 use Rattle.model.specs.Board.{Board, answer_of, handed, step_hand, turn, answers, board_after}
-use Rattle.boards.specs.declared.Hand.{Hand}
-use Rattle.boards.specs.declared.Hand.TheVariants.{Empty, Holding}
 use Rattle.boards.specs.declared.Call.{Call}
 use Rattle.boards.specs.declared.Call.TheVariants.{Step, ReadInto}
 use Rattle.boards.specs.declared.Answer.{Answer}
@@ -39,19 +37,8 @@ use Rattle.boards.specs.Boards.{
   turn_in,
   made_on,
 }
-use Rattle.replays.specs.declared.Span.{Span}
-use Rattle.replays.specs.declared.Reply.{Reply}
-use Rattle.replays.specs.declared.Job.{Job}
 use Rattle.replays.specs.Answers.{answer_bytes, encoded}
-use Rattle.replays.specs.Runs.{
-  span_in,
-  board_of,
-  reply_in,
-  last_in,
-  replies_in,
-  no_span,
-  plain_job,
-}
+use Rattle.replays.specs.Runs.{code_of, rest_of, last_in, replies_in, Making, with_bytes}
 
 -- ---- the bytes of answers
 pub encoded_append : (xs ys : List C.Answer) → encoded (xs ++ ys) ≡ encoded xs ++ encoded ys
@@ -67,14 +54,6 @@ unfolding encoded
 same_byte zero x code e = refl
 same_byte (suc k) x code e = λ i. e i ++ same_byte k x code e i
 
-no_part : (l r : List ℕ) (o : PageOffset) → read_part l r o 0 ≡ []
-unfolding read_part
-no_part l r o = go (eqb (read_number l r o 0) 0)
-  where
-    go : (t : Bool) → cond t (take 0 (drop o.0 (live_page (status_of l r).live l r))) [] ≡ []
-    go true = refl
-    go false = refl
-
 -- an answer that the code's bytes are right for, given so many times and with these bytes in the output: one of more than
 -- a byte is given once, and only that of a read into an output has any
 abbrev Fitting : Answer → ℕ → List ℕ → Type 0
@@ -86,23 +65,20 @@ Fitting (A.TheVariants.Number n) k out = out ≡ []
 Fitting (A.TheVariants.Part o n) k out = (k ≡ 1) × (out ≡ [])
 Fitting (A.TheVariants.Output n) k out = k ≡ 1
 
-abbrev after : Answer → List ℕ → List ℕ → List ℕ
-after a l r = let x = reply_in a in replicate x.count x.number ++ read_part l r x.offset x.len
-
 replied : (a : Answer) (k : ℕ) (l r out : List ℕ) → Fitting a k out
-    → encoded (replicate k (answer_in a l r out)) ≡ replicate k (reply_in a).code ++ (after a l r ++ out)
+    → encoded (replicate k (answer_in a l r out)) ≡ replicate k (code_of a) ++ (rest_of a l r ++ out)
 unfolding encoded
 replied a k l r out = go a
   where
     short : (x : C.Answer) (code : ℕ) → answer_bytes x ≡ code ∷ [] → out ≡ []
-        → encoded (replicate k x) ≡ replicate k code ++ (read_part l r (record { 0 = 0 }) 0 ++ out)
+        → encoded (replicate k x) ≡ replicate k code ++ out
     short x code e eo =
         same_byte k x code e
         ∙ sym (append-nil (replicate k code))
-        ∙ (λ i. replicate k code ++ (sym (no_part l r (record { 0 = 0 })) i ++ sym eo i))
+        ∙ ap (λ (z : List ℕ). replicate k code ++ z) (sym eo)
 
     go : (x : Answer) → Fitting x k out
-        → encoded (replicate k (answer_in x l r out)) ≡ replicate k (reply_in x).code ++ (after x l r ++ out)
+        → encoded (replicate k (answer_in x l r out)) ≡ replicate k (code_of x) ++ (rest_of x l r ++ out)
     go A.TheVariants.Nothing e = short C.nothing 0x00 refl e
     go A.TheVariants.Begun e = short C.begun 0x10 refl e
     go A.TheVariants.Made e = short C.made 0x11 refl e
@@ -116,34 +92,28 @@ replied a k l r out = go a
     go (A.TheVariants.Output n) e =
         ap (λ (m : ℕ). encoded (replicate m (C.output n out))) e
         ∙ ap (λ (z : List ℕ). 0x21 ∷ n ∷ z) (append-nil out)
-        ∙ (λ i. 0x21 ∷ n ∷ (sym (no_part l r (record { 0 = 0 })) i ++ out))
-        ∙ ap (λ (m : ℕ). replicate m 0x21 ++ ((n ∷ read_part l r (record { 0 = 0 }) 0) ++ out)) (sym e)
+        ∙ ap (λ (m : ℕ). replicate m 0x21 ++ (n ∷ out)) (sym e)
 
 all_replied : (a : Answer) (n m : ℕ) (l r out : List ℕ) → Fitting a (n - m) out
-    → encoded (answers_in n m (answer_in a l r out)) ≡ replies_in n m (reply_in a) l r ++ out
+    → encoded (answers_in n m (answer_in a l r out)) ≡ replies_in n m a l r ++ out
 all_replied a n m l r out e =
     let x = answer_in a l r out in
     let first : List ℕ = replicate m 0x11 in
-    let codes = replicate (n - m) (reply_in a).code in
+    let codes = replicate (n - m) (code_of a) in
     encoded_append (replicate m C.made) (replicate (n - m) x)
     ∙ (λ i. same_byte m C.made 0x11 refl i ++ replied a (n - m) l r out e i)
-    ∙ ap (λ (z : List ℕ). first ++ z) (sym (append_assoc codes (after a l r) out))
-    ∙ sym (append_assoc first (codes ++ after a l r) out)
+    ∙ ap (λ (z : List ℕ). first ++ z) (sym (append_assoc codes (rest_of a l r) out))
+    ∙ sym (append_assoc first (codes ++ rest_of a l r) out)
 
 -- ---- what the engine promises
--- where the held data lies after an answer
-abbrev pub span_after : Answer → Span → Span → Span
-span_after a own held = cond (reply_in a).begun own held
-
 -- what a call gives: the bytes of its answers, where an output stands in them, and the board, as the model has them
-pub record Done (s : List ℕ) (job : Job) (t : Turn) (b : Board) (held : Span) (l r out : List ℕ) : Type 0 where
+pub record Done (job : Making) (t : Turn) (b : Board) (held l r out : List ℕ) : Type 0 where
   pub count : t.made ≤ job.times
-  pub bytes : encoded (answers b (calls_in job.call (span_in s job.bytes) (span_in s job.output)))
-      ≡ replies_in job.times t.made (reply_in (last_in t job.times)) l r ++ out
-  pub place : (length out ≡ 0)
-      ⊎ (length (replies_in job.times t.made (reply_in (last_in t job.times)) l r) ≡ job.lead)
-  pub board : board_of s t.hand (span_after (last_in t job.times) job.bytes held) l r
-      ≡ board_after b (calls_in job.call (span_in s job.bytes) (span_in s job.output))
+  pub bytes : encoded (answers b (calls_in job.call job.bytes job.output))
+      ≡ replies_in job.times t.made (last_in t job.times) l r ++ out
+  pub place : (length out ≡ 0) ⊎ (length (replies_in job.times t.made (last_in t job.times) l r) ≡ job.lead)
+  pub board : board_in t.hand (held_after (last_in t job.times) job.bytes held) l r
+      ≡ board_after b (calls_in job.call job.bytes job.output)
 
 promised_answers : (call : Call) (t : Turn) (b : Board) (held d l r out out' : List ℕ)
     → turn_in call t held d l r out' ≡ made_on call b d out
@@ -171,19 +141,6 @@ last_same t n l r out = go (eqb t.made n) refl
         ∙ ap (λ (m : ℕ). replicate t.made C.made ++ replicate m (answer_in t.answer l r out)) (sym k)
     go false e = refl
 
--- and so is the code's
-pub reply_made : (t : Turn) (n : ℕ) (x : Reply) → t.made ≡ n → x ≡ reply_in A.TheVariants.Made
-    → x ≡ reply_in (last_in t n)
-reply_made t n x h e =
-    e ∙ sym (ap (λ (q : Bool). reply_in (cond q A.TheVariants.Made t.answer)) (eq-eqb t.made n h))
-
-pub reply_last : (t : Turn) (n : ℕ) (a : Answer) (x : Reply) → (t.made ≡ n → ⊥) → t.answer ≡ a → x ≡ reply_in a
-    → x ≡ reply_in (last_in t n)
-reply_last t n a x h ea e =
-    e
-    ∙ ap reply_in (sym ea)
-    ∙ sym (ap (λ (q : Bool). reply_in (cond q A.TheVariants.Made t.answer)) (ne_eqb t.made n h))
-
 -- one answer, and it is no step's
 one_said : (m : ℕ) (x y : C.Answer) → (y ≡ C.made → ⊥) → answers_in 1 m x ≡ y ∷ [] → (m ≡ 0) × (x ≡ y)
 one_said zero x y h e = (refl, cc)
@@ -209,17 +166,6 @@ plain_unmade x h e =
     let z : ◌≡◌ {A = ℕ} 0 1 = cc in
     absurd (omega arith)
 
--- where the data lies that is held after it
-span_after_lem : (s : List ℕ) (a : Answer) (own held : Span)
-    → span_in s (span_after a own held) ≡ held_after a (span_in s own) (span_in s held)
-span_after_lem s A.TheVariants.Nothing own held = refl
-span_after_lem s A.TheVariants.Begun own held = refl
-span_after_lem s A.TheVariants.Made own held = refl
-span_after_lem s A.TheVariants.Ended own held = refl
-span_after_lem s (A.TheVariants.Number n) own held = refl
-span_after_lem s (A.TheVariants.Part o n) own held = refl
-span_after_lem s (A.TheVariants.Output n) own held = refl
-
 one_fitting : (a : Answer) (k : ℕ) (out : List ℕ) → k ≡ 1 → out ≡ [] → Fitting a k out
 one_fitting A.TheVariants.Nothing k out ek eo = eo
 one_fitting A.TheVariants.Begun k out ek eo = eo
@@ -229,19 +175,16 @@ one_fitting (A.TheVariants.Number n) k out ek eo = eo
 one_fitting (A.TheVariants.Part o n) k out ek eo = (ek, eo)
 one_fitting (A.TheVariants.Output n) k out ek eo = ek
 
-pub one_done : (s : List ℕ) (call : Call) (bytes held : Span) (t : Turn) (b : Board) (x : C.Call) (l r out : List ℕ)
-    → times_of call ≡ 1 → calls_in call (span_in s bytes) [] ≡ x ∷ [] → plain (turn b x).answer ≡ true
-    → span_in s bytes ≡ own_of call (span_in s bytes) → out ≡ []
-    → turn_in call t (span_in s held) (span_in s bytes) l r out ≡ made_on call b (span_in s bytes) []
-    → Done s (plain_job call 1 bytes) t b held l r out
+pub one_done : (call : Call) (d held : List ℕ) (t : Turn) (b : Board) (x : C.Call) (l r out : List ℕ)
+    → times_of call ≡ 1 → calls_in call d [] ≡ x ∷ [] → plain (turn b x).answer ≡ true → d ≡ own_of call d → out ≡ []
+    → turn_in call t held d l r out ≡ made_on call b d [] → Done (with_bytes call 1 d) t b held l r out
 unfolding answers
-one_done s call bytes held t b x l r out n calls h own eo e =
-    let d = span_in s bytes in
+one_done call d held t b x l r out n calls h own eo e =
     let a = last_in t 1 in
     let said : answers_in 1 t.made (answer_in (last_in t 1) l r out) ≡ answers b (calls_in call d []) =
     last_same t 1 l r out
     ∙ ap (λ (k : ℕ). answers_in k t.made (answer_in t.answer l r out)) (sym n)
-    ∙ promised_answers call t b (span_in s held) d l r [] out e in
+    ∙ promised_answers call t b held d l r [] out e in
     let z = one_said t.made (answer_in a l r out) (turn b x).answer (plain_unmade (turn b x).answer h)
     (said ∙ ap (answers b) calls) in
     let none_made : t.made ≡ 0 = z.0 in
@@ -251,10 +194,8 @@ one_done s call bytes held t b x l r out n calls h own eo e =
       bytes = ap encoded (sym said) ∙ all_replied a 1 t.made l r out (one_fitting a (1 - t.made) out k eo);
       place = inl (ap length eo);
       board =
-          ap (λ (y : List ℕ). board_in t.hand y l r)
-          (span_after_lem s a bytes held
-          ∙ (λ i. held_after (one_last t none_made i) (own i) (span_in s held)))
-          ∙ promised_board call t b (span_in s held) d l r [] out e;
+          (λ i. board_in t.hand (held_after (one_last t none_made i) (own i) held) l r)
+          ∙ promised_board call t b held d l r [] out e;
     }
 
 -- ---- steps
@@ -281,8 +222,8 @@ unfolding turn
 step_like_lem b d = go b.hand
   where
     go : (hand : Option B.Hand) → step_like (step_hand b hand d).answer ≡ true
-    go none = refl
-    go (some h) = said_step (step_of h.walk b.left b.right (handed h.held d)).said
+    go None = refl
+    go (Some h) = said_step (step_of h.walk b.left b.right (handed h.held d)).said
 
 all_steps : (n : ℕ) (b : Board) (d : List ℕ) → AllSteps (answers b (replicate n (C.step d)))
 unfolding answers
@@ -321,8 +262,8 @@ step_fitting (A.TheVariants.Part o n) k l r out h eo = (cc, eo)
 step_fitting (A.TheVariants.Output n) k l r out h eo = cc
 
 -- the data held is kept
-step_holds : (a : Answer) (l r out : List ℕ) (own held : Span) → step_like (answer_in a l r out) ≡ true
-    → span_after a own held ≡ held
+step_holds : (a : Answer) (l r out own held : List ℕ) → step_like (answer_in a l r out) ≡ true
+    → held_after a own held ≡ held
 step_holds A.TheVariants.Nothing l r out own held h = refl
 step_holds A.TheVariants.Begun l r out own held h = cc
 step_holds A.TheVariants.Made l r out own held h = refl
@@ -332,8 +273,8 @@ step_holds (A.TheVariants.Part o n) l r out own held h = refl
 step_holds (A.TheVariants.Output n) l r out own held h = refl
 
 abbrev Keeps : List ℕ → Option B.Hand → Type 0
-Keeps held none = Unit {0}
-Keeps held (some h) = h.held ≡ held
+Keeps held None = Unit {0}
+Keeps held (Some h) = h.held ≡ held
 
 step_keeps : (held : List ℕ) (b : Board) (d : List ℕ) → Keeps held b.hand
     → Keeps held (turn b (C.step d)).board.hand
@@ -341,8 +282,8 @@ unfolding turn
 step_keeps held b d = go b.hand refl
   where
     go : (hand : Option B.Hand) → b.hand ≡ hand → Keeps held hand → Keeps held (step_hand b hand d).board.hand
-    go none e k = subst (Keeps held) (sym e) tt
-    go (some h) e k = k
+    go None e k = subst (Keeps held) (sym e) tt
+    go (Some h) e k = k
 
 steps_keep : (n : ℕ) (held : List ℕ) (b : Board) (d : List ℕ) → Keeps held b.hand
     → Keeps held (board_after b (replicate n (C.step d))).hand
@@ -350,13 +291,13 @@ unfolding board_after
 steps_keep zero held b d k = k
 steps_keep (suc n) held b d k = steps_keep n held (turn b (C.step d)).board d (step_keeps held b d k)
 
-holds : (hand : Hand) (held : List ℕ) → Keeps held (hand_in hand held)
-holds Empty held = tt
-holds (Holding w) held = refl
+holds : (hand : Option Walk) (held : List ℕ) → Keeps held (hand_in hand held)
+holds None held = tt
+holds (Some w) held = refl
 
-kept : (hand : Hand) (x held : List ℕ) → Keeps held (hand_in hand x) → hand_in hand held ≡ hand_in hand x
-kept Empty x held k = refl
-kept (Holding w) x held k = λ i. some (record { walk = w; held = sym k i })
+kept : (hand : Option Walk) (x held : List ℕ) → Keeps held (hand_in hand x) → hand_in hand held ≡ hand_in hand x
+kept None x held k = refl
+kept (Some w) x held k = λ i. Some (record { walk = w; held = sym k i })
 
 -- no more are made than are asked for
 answers_length : (b : Board) (cs : List C.Call) → length (answers b cs) ≡ length cs
@@ -371,28 +312,25 @@ counted n m x h =
     let rest = length-replicate (n - m) x in
     omega arith
 
-pub steps_done : (s : List ℕ) (n : ℕ) (bytes held : Span) (t : Turn) (hand : Hand) (l r l' r' out : List ℕ) → out ≡ []
-    → turn_in (Step n) t (span_in s held) (span_in s bytes) l' r' out
-    ≡ made_on (Step n) (board_of s hand held l r) (span_in s bytes) []
-    → Done s (plain_job (Step n) n bytes) t (board_of s hand held l r) held l' r' out
-steps_done s n bytes held t hand l r l' r' out eo e =
-    let b = board_of s hand held l r in
-    let d = span_in s bytes in
-    let own = span_in s held in
+pub steps_done : (n : ℕ) (d held : List ℕ) (t : Turn) (hand : Option Walk) (l r l' r' out : List ℕ) → out ≡ []
+    → turn_in (Step n) t held d l' r' out ≡ made_on (Step n) (board_in hand held l r) d []
+    → Done (with_bytes (Step n) n d) t (board_in hand held l r) held l' r' out
+steps_done n d held t hand l r l' r' out eo e =
+    let b = board_in hand held l r in
     let cs = replicate n (C.step d) in
     let m = t.made in
     let a = last_in t n in
     let said : answers_in n m (answer_in t.answer l' r' out) ≡ answers b cs =
-    promised_answers (Step n) t b own d l' r' [] out e in
+    promised_answers (Step n) t b held d l' r' [] out e in
     let most : m ≤ n =
     counted n m (answer_in t.answer l' r' out)
     (ap length said ∙ answers_length b cs ∙ length-replicate n (C.step d)) in
     let step : step_like (answer_in a l' r' out) ≡ true =
     last_step t n l' r' out most (subst AllSteps (sym said) (all_steps n b d)) in
-    let board = promised_board (Step n) t b own d l' r' [] out e in
-    let y = held_after t.answer [] own in
-    let keeps : Keeps own (hand_in t.hand y) =
-    subst (Keeps own) (sym (ap (λ (z : Board). z.hand) board)) (steps_keep n own b d (holds hand own)) in
+    let board = promised_board (Step n) t b held d l' r' [] out e in
+    let y = held_after t.answer [] held in
+    let keeps : Keeps held (hand_in t.hand y) =
+    subst (Keeps held) (sym (ap (λ (z : Board). z.hand) board)) (steps_keep n held b d (holds hand held)) in
     record {
       count = most;
       bytes =
@@ -400,8 +338,8 @@ steps_done s n bytes held t hand l r l' r' out eo e =
           ∙ all_replied a n m l' r' out (step_fitting a (n - m) l' r' out step eo);
       place = inl (ap length eo);
       board =
-          ap (λ (z : Span). board_of s t.hand z l' r') (step_holds a l' r' out bytes held step)
-          ∙ (λ i. record { left = l'; right = r'; hand = kept t.hand y own keeps i })
+          ap (λ (z : List ℕ). board_in t.hand z l' r') (step_holds a l' r' out d held step)
+          ∙ (λ i. record { left = l'; right = r'; hand = kept t.hand y held keeps i })
           ∙ board;
     }
 
@@ -419,15 +357,14 @@ output_is (A.TheVariants.Output m) l r out ys n e = cc
 output_unmade : (n : ℕ) (ys : List ℕ) → C.output n ys ≡ C.made → ⊥
 output_unmade n ys e = let z : ◌≡◌ {A = ℕ} 0 1 = cc in absurd (omega arith)
 
-pub into_done : (s : List ℕ) (o : PageOffset) (output held : Span) (t : Turn) (b : Board) (l r out : List ℕ)
-    → turn_in (ReadInto o) t (span_in s held) [] l r out ≡ made_on (ReadInto o) b [] (span_in s output)
-    → Done s (record { call = ReadInto o; times = 1; bytes = no_span; output = output; lead = 2 }) t b held l r out
+pub into_done : (o : PageOffset) (given held : List ℕ) (t : Turn) (b : Board) (l r out : List ℕ)
+    → turn_in (ReadInto o) t held [] l r out ≡ made_on (ReadInto o) b [] given
+    → Done (record { call = ReadInto o; times = 1; bytes = []; output = given; lead = 2 }) t b held l r out
 unfolding answers turn
-into_done s o output held t b l r out e =
+into_done o given held t b l r out e =
     let a = last_in t 1 in
-    let given = span_in s output in
     let f = filled b.left b.right o given in
-    let said = last_same t 1 l r out ∙ promised_answers (ReadInto o) t b (span_in s held) [] l r given out e in
+    let said = last_same t 1 l r out ∙ promised_answers (ReadInto o) t b held [] l r given out e in
     let z = one_said t.made (answer_in a l r out) (C.output f.number f.bytes)
     (output_unmade f.number f.bytes) said in
     let none_made : t.made ≡ 0 = z.0 in
@@ -439,13 +376,8 @@ into_done s o output held t b l r out e =
           ap encoded (sym said)
           ∙ all_replied a 1 t.made l r out
           (subst (λ (x : Answer). Fitting x (1 - t.made) out) (sym is) k);
-      place =
-          inr
-          ((λ i. length (replies_in 1 (none_made i) (reply_in (is i)) l r))
-          ∙ ap (λ (part : List ℕ). length (0x21 ∷ f.number ∷ part)) (no_part l r (record { 0 = 0 })));
+      place = inr (λ i. length (replies_in 1 (none_made i) (is i) l r));
       board =
-          ap (λ (y : List ℕ). board_in t.hand y l r)
-          (ap (λ (x : Answer). span_in s (span_after x no_span held)) is
-          ∙ ap (λ (x : Answer). held_after x [] (span_in s held)) (sym is ∙ one_last t none_made))
-          ∙ promised_board (ReadInto o) t b (span_in s held) [] l r given out e;
+          ap (λ (x : Answer). board_in t.hand (held_after x [] held) l r) (one_last t none_made)
+          ∙ promised_board (ReadInto o) t b held [] l r given out e;
     }

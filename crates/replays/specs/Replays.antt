@@ -2,22 +2,22 @@
 -- In order: the report; the pages and the output afterwards.
 -- Not here: the layout (the crate scripts); the calls of orders and their answers, the book's
 -- (model). Laws: proofs/. Assumes nothing.
-use Rattle.std.specs.Prelude.{ℕ, List, length}
+use Rattle.std.specs.Prelude.{ℕ, List, length, Result, Ok, Err}
 use Rattle.images.specs.Images.{overlaid}
 use Rattle.model.specs.Calls.{Call}
 use Rattle.model.specs.Board.{powered, board_after}
 use Rattle.model.specs.Orders.{calls_from, true_answers}
+use Rattle.scripts.specs.declared.ScriptError.{ScriptError}
+use Rattle.scripts.specs.declared.ScriptError as E
 use Rattle.scripts.specs.Scripts.{Findings, orders, malformed, no_room, Report, checked}
-use Rattle.replays.specs.declared.Replayed.{Replayed}
-use Rattle.replays.specs.declared.Replayed as R
 use Rattle.replays.specs.Answers.{encoded}
 
 -- ---- what is reported, and what the pages and the output then hold
 -- status and place for each answer
-abbrev pub report_in : Replayed → Report
-report_in (R.TheVariants.Done n) = record { status = 0; place = n }
-report_in (R.TheVariants.Malformed at) = record { status = 1; place = at }
-report_in (R.TheVariants.NoRoom at) = record { status = 2; place = at }
+abbrev pub report_in : Result ℕ ScriptError → Report
+report_in (Ok n) = record { status = 0; place = n }
+report_in (Err (E.TheVariants.Malformed at)) = record { status = 1; place = at }
+report_in (Err (E.TheVariants.NoRoom at)) = record { status = 2; place = at }
 
 pub record Outcome : Type 0 where
   pub report : Report

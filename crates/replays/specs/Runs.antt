@@ -1,16 +1,12 @@
 -- What a replay keeps from call to call: the board, the output and the place in it.
--- In order: the walk in hand and its data; answers as the code has them; calls of a script; orders
--- made and their answers written.
+-- In order: answers as bytes; how a call of a script is made; orders made and their answers written.
 -- Not here: what a replay gives in the end (Replays.antt). Laws: proofs/. Assumes nothing.
-use Rattle.std.specs.Prelude.{ℕ, ◌+◌, ◌-◌, Bool, true, false, cond, List, [], ◌∷◌, ◌++◌, eqb, length, take, drop, replicate}
-use Rattle.std.proofs.Math.Option.{Option, none, some}
+use Rattle.std.specs.Prelude.{ℕ, ◌+◌, ◌-◌, cond, List, [], ◌∷◌, ◌++◌, eqb, length, replicate}
 use Rattle.images.specs.Images.{overlaid}
 use Rattle.reads.specs.Reads.{read_part}
 use Rattle.model.specs.Calls as C
 use Rattle.model.specs.Board.{Board, answers, board_after}
 use Rattle.model.specs.Orders.{Order, calls_of}
-use Rattle.boards.specs.declared.Hand.{Hand}
-use Rattle.boards.specs.declared.Hand as H
 use Rattle.boards.specs.declared.Call.{Call}
 use Rattle.boards.specs.declared.Call as L
 use Rattle.boards.specs.declared.Answer.{Answer}
@@ -19,91 +15,85 @@ use Rattle.boards.specs.declared.Turn.{Turn}
 use Rattle.boards.specs.Boards.{board_in}
 use Rattle.scripts.specs.declared.Item.{Item}
 use Rattle.scripts.specs.declared.Item as I
-use Rattle.scripts.specs.Scripts.{First, Findings, orders, malformed, no_room}
-use Rattle.replays.specs.declared.Span.{Span}
-use Rattle.replays.specs.declared.Reply.{Reply}
+use Rattle.scripts.specs.Scripts.{Findings, orders, malformed, no_room}
 use Rattle.replays.specs.declared.Job.{Job}
+use Rattle.replays.specs.declared.Ran.{Ran}
 use Rattle.replays.specs.Answers.{encoded}
 
--- ---- the walk in hand and its data
--- bytes of the script by their place and length
-abbrev pub span_in : List ℕ → Span → List ℕ
-span_in s span = take span.len (drop span.start s)
+-- ---- answers as bytes
+-- the first byte of each answer
+abbrev pub code_of : Answer → ℕ
+code_of A.TheVariants.Nothing = 0x00
+code_of A.TheVariants.Begun = 0x10
+code_of A.TheVariants.Made = 0x11
+code_of A.TheVariants.Ended = 0x12
+code_of (A.TheVariants.Number n) = n
+code_of (A.TheVariants.Part o n) = 0x20
+code_of (A.TheVariants.Output n) = 0x21
 
-abbrev pub no_span : Span
-no_span = record { start = 0; len = 0 }
-
--- the data of the walk in hand lies in the script
-abbrev pub board_of : List ℕ → Hand → Span → List ℕ → List ℕ → Board
-board_of s hand held l r = board_in hand (span_in s held) l r
-
--- where the held data lies: nowhere with no walk
-abbrev pub held_span : Hand → Span → Span
-held_span H.TheVariants.Empty held = no_span
-held_span (H.TheVariants.Holding w) held = held
-
--- ---- answers as the code has them
--- an answer of one byte
-abbrev pub short_reply : ℕ → Bool → Reply
-short_reply code begun =
-    record {
-      code = code;
-      count = 0;
-      number = 0;
-      offset = record { 0 = 0 };
-      len = 0;
-      begun = begun;
-    }
-
--- each answer; an output stands after its first byte and its number
-abbrev pub reply_in : Answer → Reply
-reply_in A.TheVariants.Nothing = short_reply 0x00 false
-reply_in A.TheVariants.Begun = short_reply 0x10 true
-reply_in A.TheVariants.Made = short_reply 0x11 false
-reply_in A.TheVariants.Ended = short_reply 0x12 false
-reply_in (A.TheVariants.Number n) = short_reply n false
-reply_in (A.TheVariants.Part o n) =
-    record { code = 0x20; count = 0; number = 0; offset = o; len = n; begun = false }
-reply_in (A.TheVariants.Output n) =
-    record { code = 0x21; count = 1; number = n; offset = record { 0 = 0 }; len = 0; begun = false }
+-- and those after it; an output stands after its number
+abbrev pub rest_of : Answer → List ℕ → List ℕ → List ℕ
+rest_of A.TheVariants.Nothing l r = []
+rest_of A.TheVariants.Begun l r = []
+rest_of A.TheVariants.Made l r = []
+rest_of A.TheVariants.Ended l r = []
+rest_of (A.TheVariants.Number n) l r = []
+rest_of (A.TheVariants.Part o n) l r = read_part l r o n
+rest_of (A.TheVariants.Output n) l r = n ∷ []
 
 -- the answer to all calls after the steps made; a step made where all were
 abbrev pub last_in : Turn → ℕ → Answer
 last_in t times = cond (eqb t.made times) A.TheVariants.Made t.answer
 
 -- the bytes of so many answers, of which the first are steps made, up to an output
-abbrev pub replies_in : ℕ → ℕ → Reply → List ℕ → List ℕ → List ℕ
-replies_in times made x l r =
-    replicate made 0x11
-    ++ (replicate (times - made) x.code
-    ++ (replicate x.count x.number ++ read_part l r x.offset x.len))
+abbrev pub replies_in : ℕ → ℕ → Answer → List ℕ → List ℕ → List ℕ
+replies_in times made a l r =
+    replicate made 0x11 ++ (replicate (times - made) (code_of a) ++ rest_of a l r)
 
--- ---- calls of a script
--- a call that is lent no output
-abbrev pub plain_job : Call → ℕ → Span → Job
-plain_job call times bytes =
-    record { call = call; times = times; bytes = bytes; output = no_span; lead = 0 }
+-- ---- how a call of a script is made
+-- the call of a board, how many answers it has, the bytes and the output that are lent to it, and
+-- how many bytes of its answer stand before that output
+pub record Making : Type 0 where
+  pub call : Call
+  pub times : ℕ
+  pub bytes : List ℕ
+  pub output : List ℕ
+  pub lead : ℕ
 
--- the call of an item whose own bytes begin at this place of the script, where the held data is this
--- span; of a malformed one there is none, so no step is made
-abbrev pub job_in : Item → ℕ → Span → Job
-job_in (I.TheVariants.Save o n) start held =
-    plain_job (L.TheVariants.Save o) 1 (record { start = start; len = n })
-job_in I.TheVariants.Format start held = plain_job L.TheVariants.Format 1 no_span
-job_in (I.TheVariants.Steps n) start held = plain_job (L.TheVariants.Step n) n held
-job_in (I.TheVariants.StepWith n) start held =
-    plain_job (L.TheVariants.Step 1) 1 (record { start = start; len = n })
-job_in (I.TheVariants.Read o n) start held = plain_job (L.TheVariants.Read o n) 1 no_span
-job_in (I.TheVariants.ReadInto o n) start held =
+abbrev pub making : Job → Making
+making job =
+    record {
+      call = job.call;
+      times = job.times;
+      bytes = job.bytes.now;
+      output = job.output.now;
+      lead = job.lead;
+    }
+
+-- a call that is made so many times with these bytes, and is lent no output
+abbrev pub with_bytes : Call → ℕ → List ℕ → Making
+with_bytes call times bytes =
+    record { call = call; times = times; bytes = bytes; output = []; lead = 0 }
+
+abbrev pub once : Call → Making
+once call = with_bytes call 1 []
+
+-- that of an item, with this data held
+abbrev pub making_of : Item → List ℕ → Making
+making_of (I.TheVariants.Save o d) held = with_bytes (L.TheVariants.Save o) 1 d.now
+making_of I.TheVariants.Format held = once L.TheVariants.Format
+making_of (I.TheVariants.Steps n) held = with_bytes (L.TheVariants.Step n) n held
+making_of (I.TheVariants.StepWith d) held = with_bytes (L.TheVariants.Step 1) 1 d.now
+making_of (I.TheVariants.Read o n) held = once (L.TheVariants.Read o n)
+making_of (I.TheVariants.ReadInto o out) held =
     record {
       call = L.TheVariants.ReadInto o;
       times = 1;
-      bytes = no_span;
-      output = record { start = start; len = n };
+      bytes = [];
+      output = out.now;
       lead = 2;
     }
-job_in I.TheVariants.Cut start held = plain_job L.TheVariants.Cut 1 no_span
-job_in I.TheVariants.Malformed start held = plain_job (L.TheVariants.Step 0) 0 no_span
+making_of I.TheVariants.Cut held = once L.TheVariants.Cut
 
 -- ---- orders made, and their answers written
 -- bytes written to an output from a place on, and the place after them
@@ -119,6 +109,14 @@ pub record Run : Type 0 where
   pub board : Board
   pub output : Written
 
+-- as the code keeps it
+abbrev pub run_in : Ran → List ℕ → List ℕ → List ℕ → Run
+run_in ran l r out =
+    record {
+      board = board_in ran.hand ran.held.now l r;
+      output = record { out = out; at = ran.at };
+    }
+
 abbrev pub made : List C.Call → Run → Run
 made cs x =
     record {
@@ -129,10 +127,6 @@ made cs x =
 -- an order, and orders one after another
 abbrev pub ordered : Order → Run → Run
 ordered order x = made (calls_of x.board.hand order) x
-
-abbrev pub followed : Option First → Run → Run
-followed none x = x
-followed (some f) x = ordered f.order x
 
 unfoldable pub running : List Order → Run → Run
 running [] x = x

@@ -5,32 +5,31 @@
 // Total: any bytes, any lengths. The whole script is checked before the first call is made.
 #![tactic(auto)]
 
-ghost use Rattle.std.specs.Prelude.{◌+◌, ◌≤◌, ◌≡◌, cond, length, replicate};
-ghost use Rattle.images.specs.Images.{overlaid};
+ghost use Rattle.std.specs.Prelude.{◌+◌, ◌≤◌, ◌≡◌, length, replicate};
 ghost use Rattle.model.specs.Board.{powered};
-ghost use Rattle.scripts.specs.Scripts.{item_in, room_of, found, checked};
+ghost use Rattle.model.specs.Orders.{held_in};
+ghost use Rattle.boards.specs.Boards.{hand_in, held_after};
+ghost use Rattle.scripts.specs.Scripts.{item_in, found, checked};
 ghost use Rattle.replays.specs.Runs.{
-  span_in,
-  board_of,
-  short_reply,
-  reply_in,
+  code_of,
   last_in,
   replies_in,
-  held_span,
-  plain_job,
-  job_in,
+  once,
+  making,
+  making_of,
   Written,
   written,
   Run,
+  run_in,
+  ordered,
   running,
-  followed,
   orders_of,
 };
 ghost use Rattle.replays.specs.Replays.{Outcome, report_in, replayed};
 
-use boards::{Answer, Call, Hand, Turn};
-use pages::PageOffset;
-use scripts::{Item, Verdict};
+use boards::{Answer, Call, Turn};
+use scripts::{Item, ScriptError};
+use walks::Walk;
 
 // The first byte of each answer that isn't a number.
 const NOTHING: u8 = 0x00;
@@ -45,321 +44,233 @@ const PART: u8 = 0x20;
 
 const OUTPUT: u8 = 0x21;
 
-// How a replay is answered: how many bytes the answers take, or where the script is malformed or
-// its answers have no room.
-#[derive(Clone, Copy)]
-pub enum Replayed {
-    Done(usize),
-    Malformed(usize),
-    NoRoom(usize),
-}
+// How many bytes of an answer stand before an output: the first and its number.
+const BEFORE_OUTPUT: usize = 2;
 
-// Bytes of the script by their place and length.
-#[derive(Clone, Copy)]
-struct Span {
-    start: usize,
-    len: u32,
-}
-
-// An answer: its first byte, so many times a number after it and a part of the live page, and
-// whether a walk was begun.
-#[derive(Clone, Copy)]
-struct Reply {
-    code: u8,
-    count: usize,
-    number: u8,
-    offset: PageOffset,
-    len: u32,
-    begun: bool,
-}
-
-// How a call of a script is made: the call of a board, how many answers it has, where the data and
-// the output lie in the script that are lent to it, and how many bytes of its answer stand before
-// that output.
-#[derive(Clone, Copy)]
-struct Job {
-    call: Call,
-    times: u32,
-    bytes: Span,
-    output: Span,
-    lead: usize,
-}
-
-// What is kept from call to call: the walk in hand, where its data lies in the script, and the
-// place in the output.
-#[derive(Clone, Copy)]
-struct Ran {
-    hand: Hand,
-    held: Span,
-    at: usize,
-}
-
-// ---- bytes of the script and of the output
-// The bytes of a span, as far as the script has them.
-fn part(script: &[u8], span: Span) -> &[u8]
-    ensures { result.now ≡ span_in script.now span }
-{
-    let end = script.len();
-    let start = span.start;
-    if end <= start {
-        return &script[0..0];
-    }
-    let size = span.len as usize;
-    if end - start <= size {
-        return &script[start..];
-    }
-    let stop = start + size;
-    &script[start..stop]
-}
-
-// The same byte, so many times.
-fn put_all(out: &mut [u8], at: usize, count: usize, value: u8)
-    requires { at + count ≤ length out.old }
-    ensures { out.new ≡ overlaid out.old at (replicate count value) }
-{
-    let end = at + count;
-    for i in at..end {
-        out[i] = value;
-    }
-}
-
-fn put_part(out: &mut [u8], at: usize, bytes: &[u8])
+// ---- bytes of the output
+// Writes bytes from a place on; gives the place after them.
+fn put(out: &mut [u8], at: usize, bytes: &[u8]) -> usize
     requires { at + length bytes.now ≤ length out.old }
-    ensures { out.new ≡ overlaid out.old at bytes.now }
+    ensures { ◌≡◌ {A = Written} (record { out = out.new; at = result })
+        (written out.old at bytes.now) }
 {
     let end = at + bytes.len();
     out[at..end].copy_from_slice(bytes);
+    end
+}
+
+// Writes the same byte, so many times.
+fn put_all(out: &mut [u8], at: usize, count: u32, byte: u8) -> usize
+    requires { at + count ≤ length out.old }
+    ensures { ◌≡◌ {A = Written} (record { out = out.new; at = result })
+        (written out.old at (replicate count byte)) }
+{
+    let end = at + count as usize;
+    out[at..end].fill(byte);
+    end
 }
 
 // ---- answers
-// An answer of one byte.
-fn short(code: u8, begun: bool) -> Reply
-    ensures { result ≡ short_reply code begun }
+// The first byte of an answer.
+fn code_of(answer: Answer) -> u8
+    ensures { result ≡ code_of answer }
 {
-    Reply {
-        code: code,
-        count: 0,
-        number: 0,
-        offset: PageOffset(0),
-        len: 0,
-        begun: begun,
+    match answer {
+        Answer::Nothing => NOTHING,
+        Answer::Begun => BEGUN,
+        Answer::Made => MADE,
+        Answer::Ended => ENDED,
+        Answer::Number(number) => number,
+        Answer::Part(..) => PART,
+        Answer::Output(_) => OUTPUT,
     }
 }
 
-// The answer to so many calls: that to each after the steps made, or a step made where all were.
-fn reply_of(turn: Turn, times: u32) -> Reply
-    ensures { result ≡ reply_in (last_in turn times) }
+// The last of so many answers: that to each call after the steps made, or a step made where all were.
+fn last_of(turn: Turn, times: u32) -> Answer
+    ensures { result ≡ last_in turn times }
 {
     if turn.made == times {
-        return short(MADE, false);
-    }
-    let answer = turn.answer;
-    match answer {
-        Answer::Nothing => short(NOTHING, false),
-        Answer::Begun => short(BEGUN, true),
-        Answer::Made => short(MADE, false),
-        Answer::Ended => short(ENDED, false),
-        Answer::Number(number) => short(number, false),
-        Answer::Part(offset, len) => Reply {
-            code: PART,
-            count: 0,
-            number: 0,
-            offset: offset,
-            len: len,
-            begun: false,
-        },
-        Answer::Output(number) => Reply {
-            code: OUTPUT,
-            count: 1,
-            number: number,
-            offset: PageOffset(0),
-            len: 0,
-            begun: false,
-        },
+        Answer::Made
+    } else {
+        turn.answer
     }
 }
 
-// Writes the answers to so many calls, up to an output; gives the place after them.
-fn put_replies<'a>(
-    reply: Reply,
+// The data of the walk in hand after an answer: the call's own where it began that walk.
+fn held_after<'a>(last: Answer, own: &'a [u8], held: &'a [u8]) -> &'a [u8]
+    ensures { result.now ≡ held_after last own.now held.now }
+{
+    match last {
+        Answer::Begun => own,
+        _ => held,
+    }
+}
+
+// Writes so many answers, of which the first are steps made and all others the last one, up to an
+// output; gives the place after them.
+fn put_answers(
+    last: Answer,
     made: u32,
     times: u32,
-    left: &'a [u8],
-    right: &'a [u8],
+    left: &[u8],
+    right: &[u8],
     out: &mut [u8],
     at: usize,
 ) -> usize
     requires { (made ≤ times)
-        × (at + length (replies_in times made reply left.now right.now) ≤ length out.old) }
-    ensures { ◌≡◌ {A = Written} (record { out = out.exit.now; at = result })
-        (written out.entry.now at
-        (replies_in times made reply left.now right.now)) }
+        × (at + length (replies_in times made last left.now right.now) ≤ length out.old) }
+    ensures { ◌≡◌ {A = Written} (record { out = out.new; at = result })
+        (written out.old at (replies_in times made last left.now right.now)) }
 {
-    let count = made as usize;
-    let rest = at + count;
-    let end = at + times as usize;
-    let start = end + reply.count;
-    let bytes = reads::read(left, right, reply.offset, reply.len);
-    put_all(out, at, count, MADE);
-    put_all(out, rest, end - rest, reply.code);
-    put_all(out, end, reply.count, reply.number);
-    put_part(out, start, bytes);
-    start + bytes.len()
+    let rest = put_all(out, at, made, MADE);
+    let end = put_all(out, rest, times - made, code_of(last));
+    match last {
+        Answer::Part(offset, len) => put(out, end, reads::read(left, right, offset, len)),
+        Answer::Output(number) => put(out, end, &[number]),
+        _ => end,
+    }
 }
 
 // ---- calls
-// The span of the held data; empty with no walk.
-fn held_span(hand: Hand, held: Span) -> Span
-    ensures { result ≡ held_span hand held }
-{
-    match hand {
-        Hand::Empty => Span { start: 0, len: 0 },
-        Hand::Holding(_) => held,
-    }
+// How a call of a script is made: the call of a board, how many answers it has, the bytes of the
+// script that are lent to it and those that its output holds, and how many bytes of its answer stand
+// before that output.
+#[derive(Clone, Copy)]
+struct Job<'a> {
+    call: Call,
+    times: u32,
+    bytes: &'a [u8],
+    output: &'a [u8],
+    lead: usize,
 }
 
-// Where the data of the walk in hand lies after an answer: its own where it is begun.
-fn held_after(begun: bool, own: Span, held: Span) -> Span
-    ensures { result ≡ cond begun own held }
-{
-    if begun {
-        return own;
-    }
-    held
-}
-
-// A call that is lent these bytes of the script, and no output.
-fn plain(call: Call, times: u32, start: usize, len: u32) -> Job
-    ensures { result ≡ plain_job call times (record { start = start; len = len }) }
-{
-    Job {
-        call: call,
-        times: times,
-        bytes: Span {
-            start: start,
-            len: len,
-        },
-        output: Span { start: 0, len: 0 },
-        lead: 0,
-    }
-}
-
-// The call of an item whose own bytes begin at a place of the script, with this walk in hand.
-fn job_of(item: Item, start: usize, hand: Hand, held: Span) -> Job
-    ensures { result ≡ job_in item start (held_span hand held) }
-{
-    match item {
-        Item::Save(offset, len) => plain(Call::Save(offset), 1, start, len),
-        Item::Format => plain(Call::Format, 1, 0, 0),
-        Item::Steps(times) => {
-            let span = held_span(hand, held);
-            plain(Call::Step(times), times, span.start, span.len)
-        }
-        Item::StepWith(len) => plain(Call::Step(1), 1, start, len),
-        Item::Read(offset, len) => plain(Call::Read(offset, len), 1, 0, 0),
-        Item::ReadInto(offset, len) => Job {
-            call: Call::ReadInto(offset),
+impl<'a> Job<'a> {
+    // A call that is made once, and is lent nothing.
+    fn once(call: Call) -> Job<'a>
+        ensures { making result ≡ once call }
+    {
+        Job {
+            call,
             times: 1,
-            bytes: Span { start: 0, len: 0 },
-            output: Span {
-                start: start,
-                len: len,
+            bytes: &[],
+            output: &[],
+            lead: 0,
+        }
+    }
+
+    // The call of an item, where the walk in hand was begun with this data.
+    fn of(item: Item<'a>, held: &'a [u8]) -> Job<'a>
+        ensures { making result ≡ making_of item.entry held.now }
+    {
+        match item {
+            Item::Save(offset, bytes) => Job {
+                bytes,
+                ..Job::once(Call::Save(offset))
             },
-            lead: 2,
-        },
-        Item::Cut => plain(Call::Cut, 1, 0, 0),
-        Item::Malformed => plain(Call::Step(0), 0, 0, 0),
+            Item::Format => Job::once(Call::Format),
+            Item::Steps(times) => Job {
+                times,
+                bytes: held,
+                ..Job::once(Call::Step(times))
+            },
+            Item::StepWith(bytes) => Job {
+                bytes,
+                ..Job::once(Call::Step(1))
+            },
+            Item::Read(offset, len) => Job::once(Call::Read(offset, len)),
+            Item::ReadInto(offset, output) => Job {
+                output,
+                lead: BEFORE_OUTPUT,
+                ..Job::once(Call::ReadInto(offset))
+            },
+            Item::Cut => Job::once(Call::Cut),
+        }
     }
 }
 
 // ---- a script
-// Makes the calls of an item that begins at a place of the script, and writes their answers. An
-// output is laid in where it stands in its answer, and lent from there.
-fn run_item(
-    ran: Ran,
-    item: Item,
-    place: usize,
-    left: &mut [u8],
-    right: &mut [u8],
-    script: &[u8],
-    out: &mut [u8],
-) -> Ran
-    requires { (place + 9 ≤ length script.now)
-        × (ran.at + room_of (item_in script.now place item) ≤ length out.old) }
-    ensures { ◌≡◌ {A = Run}
-        (record {
-          board =
-              board_of script.now result.hand result.held left.new right.new;
-          output = record { out = out.exit.now; at = result.at };
-        })
-        (followed (item_in script.now place item)
-        (record {
-          board = board_of
-              script.now ran.hand ran.held left.old right.old;
-          output = record { out = out.entry.now; at = ran.at };
-        })) }
-{
-    let hand = ran.hand;
-    let job = job_of(item, place + scripts::HEAD_SIZE, hand, ran.held);
-    let call = job.call;
-    let given = part(script, job.output);
-    let start = ran.at + job.lead;
-    let stop = start + given.len();
-    put_part(out, start, given);
-    let turn = boards::make(
-        call,
-        hand,
-        part(script, ran.held),
-        part(script, job.bytes),
-        left,
-        right,
-        &mut out[start..stop],
-    );
-    let next = turn.hand;
-    let reply = reply_of(turn, job.times);
-    let end = put_replies(reply, turn.made, job.times, left, right, out, ran.at);
-    let after = end + given.len();
-    Ran {
-        hand: next,
-        held: held_after(reply.begun, job.bytes, ran.held),
-        at: after,
+// What is kept from call to call: the walk in hand, the data it was begun with, and the place in the
+// output.
+#[derive(Clone, Copy)]
+struct Ran<'a> {
+    hand: Option<Walk>,
+    held: &'a [u8],
+    at: usize,
+}
+
+impl<'a> Ran<'a> {
+    // The data of the walk in hand; none with no walk.
+    fn data_in_hand(self) -> &'a [u8]
+        ensures { result.now ≡ held_in (hand_in self.entry.hand self.entry.held.now) }
+    {
+        match self.hand {
+            None => &[],
+            Some(_) => self.held,
+        }
+    }
+
+    // Makes the calls of an item and writes their answers. An output is laid in where it stands in
+    // its answer, and lent from there.
+    fn make(&mut self, item: Item<'a>, left: &mut [u8], right: &mut [u8], out: &mut [u8])
+        requires { self.old.at + (item_in item).room ≤ length out.old }
+        ensures { run_in self.new left.new right.new out.new
+            ≡ ordered (item_in item.entry).order
+            (run_in self.old left.old right.old out.old) }
+    {
+        let job = Job::of(item, self.data_in_hand());
+        let start = self.at + job.lead;
+        let end = put(out, start, job.output);
+        let turn = boards::make(
+            job.call,
+            self.hand,
+            self.held,
+            job.bytes,
+            left,
+            right,
+            &mut out[start..end],
+        );
+        let last = last_of(turn, job.times);
+        self.hand = turn.hand;
+        self.held = held_after(last, job.bytes, self.held);
+        let after = put_answers(last, turn.made, job.times, left, right, out, self.at);
+        self.at = after + job.output.len();
     }
 }
 
 // Makes the calls of a script that was found whole.
-fn run(left: &mut [u8], right: &mut [u8], script: &[u8], out: &mut [u8]) -> Ran
+fn run<'a>(left: &mut [u8], right: &mut [u8], script: &'a [u8], out: &mut [u8]) -> Ran<'a>
     requires { (found (checked script.now (length out.old))).status ≡ 0 }
-    ensures { ◌≡◌ {A = Run}
-        (record {
-          board =
-              board_of script.now result.hand result.held left.new right.new;
-          output = record { out = out.exit.now; at = result.at };
-        })
-        (running (orders_of (checked script.now (length out.entry.now)))
+    ensures { run_in result left.new right.new out.new
+        ≡ running (orders_of (checked script.now (length out.old)))
         (record {
           board = powered left.old right.old;
-          output = record { out = out.entry.now; at = 0 };
-        })) }
+          output = record { out = out.old; at = 0 };
+        }) }
 {
-    let hand = boards::empty_hand();
     let mut ran = Ran {
-        hand: hand,
-        held: Span { start: 0, len: 0 },
+        hand: boards::empty_hand(),
+        held: &[],
         at: 0,
     };
-    let mut place: usize = 0;
-    while place < script.len() {
-        let item = scripts::item_at(script, place);
-        let size = item.size();
-        ran = run_item(ran, item, place, left, right, script, out);
-        place = place + size;
+    let mut place = 0;
+    // Calls differ in size, so no `for` and no `chunks` goes over them.
+    while let Some(item) = scripts::item_at(script, place) {
+        ran.make(item, left, right, out);
+        place += item.size();
     }
     ran
 }
 
 // Checks a whole script and, where it is well formed and its answers have room, makes its calls on
-// the pages one after another, as a board would, and writes their answers to the output.
-pub fn replay(left: &mut [u8], right: &mut [u8], script: &[u8], out: &mut [u8]) -> Replayed
+// the pages one after another, as a board would, and writes their answers to the output. Gives how
+// many bytes of the output they take.
+pub fn replay(
+    left: &mut [u8],
+    right: &mut [u8],
+    script: &[u8],
+    out: &mut [u8],
+) -> Result<usize, ScriptError>
     ensures { ◌≡◌ {A = Outcome}
         (record {
           report = report_in result;
@@ -373,12 +284,6 @@ pub fn replay(left: &mut [u8], right: &mut [u8], script: &[u8], out: &mut [u8]) 
         script.now
         out.old) }
 {
-    match scripts::check(script, out.len()) {
-        Verdict::Malformed(place) => Replayed::Malformed(place),
-        Verdict::NoRoom(place) => Replayed::NoRoom(place),
-        Verdict::Whole => {
-            let ran = run(left, right, script, out);
-            Replayed::Done(ran.at)
-        }
-    }
+    scripts::check(script, out.len())?;
+    Ok(run(left, right, script, out).at)
 }

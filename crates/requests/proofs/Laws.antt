@@ -89,9 +89,6 @@ passed false k rest e = (refl, e)
 pub one : (a b p q : ℕ) → wrong_lengths a b p q ≡ true → 1 ≡ lengths_number a b p q
 one a b p q e = sym (ap (λ (t : Bool). cond t 1 0) e)
 
-pub not_one : (a b p q : ℕ) → wrong_lengths a b p q ≡ false → 0 ≡ lengths_number a b p q
-not_one a b p q e = sym (ap (λ (t : Bool). cond t 1 0) e)
-
 pub two : (p : ℕ) (o : PageOffset) (n rest : ℕ) → odd_request o n ≡ true → 2 ≡ span_number p o n rest
 unfolding span_number
 two p o n rest e = simp e
@@ -100,11 +97,6 @@ pub three : (p : ℕ) (o : PageOffset) (n rest : ℕ) → odd_request o n ≡ fa
     → 3 ≡ span_number p o n rest
 unfolding span_number
 three p o n rest e h = simp (e, h)
-
-pub not_three : (p : ℕ) (o : PageOffset) (n rest : ℕ) → odd_request o n ≡ false → below_image o ≡ false
-    → end_number p o n rest ≡ span_number p o n rest
-unfolding span_number
-not_three p o n rest e h = simp (e, h)
 
 pub four : (p : ℕ) (o : PageOffset) (n rest : ℕ) → past_end p o n ≡ true → 4 ≡ end_number p o n rest
 unfolding end_number
@@ -123,19 +115,6 @@ one_to_four PastEnd = (lit≤ tt, lit≤ tt)
 
 pub never_none : (why : Refusal) → number_of why ≡ 0 → ⊥
 never_none why e = omega (arith, one_to_four why)
-
-pub pages_first : (a b p q : ℕ) (o : PageOffset) (n : ℕ) (why : Refusal) → number_of why ≡ lengths_number a b p q
-    → number_of why ≡ number_within a b p q o n
-pages_first a b p q o n why = go (wrong_lengths a b p q)
-  where
-    go : (t : Bool) → number_of why ≡ cond t 1 0 → number_of why ≡ cond t 1 (span_number p o n 0)
-    go true e = e
-    go false e = absurd (never_none why e)
-
-pub pages_then : (a b p q : ℕ) (o : PageOffset) (n : ℕ) → lengths_number a b p q ≡ 0
-    → span_number p o n 0 ≡ number_within a b p q o n
-pages_then a b p q o n e =
-    sym (ap (λ (t : Bool). cond t 1 (span_number p o n 0)) (passed (wrong_lengths a b p q) 0 0 e).0)
 
 -- ---- what a legal request fulfils
 pub or_left : (a b : Bool) → (a || b) ≡ false → a ≡ false

@@ -4,6 +4,7 @@
 -- Not here: number 5, a read's (the crate reads), and 6, a step's; what a legal request fulfils
 -- (Legal.antt). Laws: proofs/Laws.antt; that each number is given exactly in its case:
 -- proofs/Exact.antt. Assumes nothing.
+use Rattle.std.specs.Prelude.{Result, Ok, Err}
 use Rattle.std.specs.Prelude.{ℕ, ◌+◌, Bool, cond, not, ◌||◌, eqb, ltb, leb}
 use Rattle.flash.specs.Flash.{is_even}
 use Rattle.pages.specs.declared.PageOffset.{PageOffset}
@@ -15,8 +16,6 @@ use Rattle.requests.specs.declared.Refusal.TheVariants.{
   InManagement,
   PastEnd,
 }
-use Rattle.requests.specs.declared.Check.{Check}
-use Rattle.requests.specs.declared.Check.TheVariants.{Legal, Refused}
 
 -- document 01's number for each refusal
 abbrev pub number_of : Refusal → ℕ
@@ -26,9 +25,9 @@ number_of InManagement = 3
 number_of PastEnd = 4
 
 -- and for each answer of a check
-abbrev pub number_in : Check → ℕ
-number_in Legal = 0
-number_in (Refused why) = number_of why
+abbrev pub number_in : Result (Unit {0}) Refusal → ℕ
+number_in (Ok legal) = 0
+number_in (Err why) = number_of why
 
 -- ---- the four cases
 -- 1: "the pages differ in length, or P is odd, below 8 or above 4,096", with the least and the

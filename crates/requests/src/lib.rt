@@ -19,19 +19,12 @@ ghost use Rattle.requests.specs.Numbers.{
 use pages::PageOffset;
 
 // Why a request is refused, whatever the pages hold: document 01's numbers 1 to 4.
-#[derive(Clone, Copy)]
+#[derive(Clone, Copy, Debug, PartialEq, Eq)]
 pub enum Refusal {
     PageLength,
     OddRequest,
     InManagement,
     PastEnd,
-}
-
-// Whether a request is legal.
-#[derive(Clone, Copy)]
-pub enum Check {
-    Legal,
-    Refused(Refusal),
 }
 
 impl Refusal {
@@ -49,64 +42,59 @@ impl Refusal {
 }
 
 // Number 1, from the lengths of the two pages and the least and the greatest that a page may have.
-pub fn check_lengths(left: usize, right: usize, least: usize, greatest: usize) -> Check
+#[tactic(auto, unfolding(crate::specs::Numbers::wrong_lengths))]
+pub fn check_lengths(
+    left: usize,
+    right: usize,
+    least: usize,
+    greatest: usize,
+) -> Result<(), Refusal>
     ensures { number_in result ≡ lengths_number least greatest left right }
 {
-    if left != right {
-        return Check::Refused(Refusal::PageLength);
+    if left != right || left % 2 != 0 || left < least || greatest < left {
+        return Err(Refusal::PageLength);
     }
-    if left % 2 != 0 {
-        return Check::Refused(Refusal::PageLength);
-    }
-    if left < least {
-        return Check::Refused(Refusal::PageLength);
-    }
-    if greatest < left {
-        return Check::Refused(Refusal::PageLength);
-    }
-    Check::Legal
+    Ok(())
 }
 
 // Number 1.
-pub fn check_pages(left: usize, right: usize) -> Check
+#[tactic(auto, unfolding(crate::specs::Numbers::pages_number))]
+pub fn check_pages(left: usize, right: usize) -> Result<(), Refusal>
     ensures { number_in result ≡ pages_number left right }
 {
     check_lengths(left, right, pages::MIN_PAGE, pages::MAX_PAGE)
 }
 
 // Number 4, with no sum that could wrap.
-fn check_end(page: usize, offset: PageOffset, len: usize) -> Check
+#[tactic(auto, unfolding(crate::specs::Numbers::end_number, crate::specs::Numbers::past_end))]
+fn check_end(page: usize, offset: PageOffset, len: usize) -> Result<(), Refusal>
     ensures { number_in result ≡ end_number page offset len 0 }
 {
     let start = offset.0 as usize;
-    if page <= start {
-        return Check::Refused(Refusal::PastEnd);
+    if page <= start || page - start < len {
+        return Err(Refusal::PastEnd);
     }
-    if len <= page - start {
-        return Check::Legal;
-    }
-    Check::Refused(Refusal::PastEnd)
+    Ok(())
 }
 
 // Numbers 2 to 4, in their order, of a request to pages of one length.
-fn check_span(page: usize, offset: PageOffset, len: usize) -> Check
+#[tactic(auto, unfolding(crate::specs::Numbers::span_number, crate::specs::Numbers::odd_request, crate::specs::Numbers::below_image))]
+fn check_span(page: usize, offset: PageOffset, len: usize) -> Result<(), Refusal>
     ensures { number_in result ≡ span_number page offset len 0 }
 {
     let start = offset.0;
-    if start % 2 != 0 {
-        return Check::Refused(Refusal::OddRequest);
-    }
-    if len % 2 != 0 {
-        return Check::Refused(Refusal::OddRequest);
+    if start % 2 != 0 || len % 2 != 0 {
+        return Err(Refusal::OddRequest);
     }
     if start < pages::MANAGEMENT_SIZE {
-        return Check::Refused(Refusal::InManagement);
+        return Err(Refusal::InManagement);
     }
     check_end(page, offset, len)
 }
 
 // Numbers 1 to 4, in their order, from the lengths of the pages, the least and the greatest that a
 // page may have, the offset and the length asked for. No byte of a page is looked at.
+#[tactic(auto, unfolding(crate::specs::Numbers::wrong_lengths))]
 pub fn check_within(
     left: usize,
     right: usize,
@@ -114,17 +102,21 @@ pub fn check_within(
     greatest: usize,
     offset: PageOffset,
     len: usize,
-) -> Check
+) -> Result<(), Refusal>
     ensures { number_in result ≡ number_within least greatest left right offset len }
 {
-    match check_lengths(left, right, least, greatest) {
-        Check::Refused(why) => Check::Refused(why),
-        Check::Legal => check_span(left, offset, len),
-    }
+    check_lengths(left, right, least, greatest)?;
+    check_span(left, offset, len)
 }
 
 // Numbers 1 to 4.
-pub fn check_request(left: usize, right: usize, offset: PageOffset, len: usize) -> Check
+#[tactic(auto, unfolding(crate::specs::Numbers::request_number))]
+pub fn check_request(
+    left: usize,
+    right: usize,
+    offset: PageOffset,
+    len: usize,
+) -> Result<(), Refusal>
     ensures { number_in result ≡ request_number left right offset len 0 }
 {
     check_within(left, right, pages::MIN_PAGE, pages::MAX_PAGE, offset, len)

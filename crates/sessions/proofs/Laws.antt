@@ -1,21 +1,22 @@
 -- Calls of a session are the model's.
 -- In order: buffers; one call; steps; a copy; a line.
 -- Assumes nothing.
+use Rattle.std.specs.Prelude.{Option, Some, None, leb}
+use Rattle.walks.specs.declared.Walk.{Walk}
 use Prim.Native.Nat.{ℕ, zero, suc, ◌-◌, ◌≤◌}
 use mathlib.Core.Path.{◌≡◌, refl, sym, ap, subst, ◌∙◌}
-use mathlib.Core.Bool.{Bool, true, false, cond, not}
+use mathlib.Core.Bool.{Bool, true, false, cond}
 use mathlib.Core.List.{List, [], ◌∷◌, ◌++◌}
 use native.Mathlib.Omega.{arith}
 use lib.ListN.{length, take, drop, replicate}
 use lib.Seq.{take-length, take-nil, length-take-le}
-use borrow.Author.Tests.{leb-true, not-true, not-false}
+use borrow.Author.Tests.{leb-true}
 use Rattle.reads.specs.Reads.{filled}
 use Rattle.model.specs.Calls as C
 use Rattle.model.specs.Board.{Board, Turn, turn, answers, board_after}
 use Rattle.model.specs.Decided.{is_made}
 use Rattle.model.specs.Orders.{one, held_in}
-use Rattle.boards.specs.declared.Hand.{Hand}
-use Rattle.boards.specs.declared.Hand as H
+use Rattle.pages.specs.declared.PageOffset.{PageOffset}
 use Rattle.boards.specs.declared.Call.{Call}
 use Rattle.boards.specs.declared.Call as L
 use Rattle.boards.specs.declared.Answer.{Answer}
@@ -39,8 +40,10 @@ use Rattle.digits.specs.Digits.{bytes_of}
 use Rattle.asks.specs.Asks as T
 use Rattle.asks.specs.Asks.{Asks, asks_of}
 use Rattle.turns.specs.declared.Turned.{Turned}
+use Rattle.turns.specs.declared.Job.{Job}
+use Rattle.turns.specs.declared.Next as N
 use Rattle.turns.specs.declared.Plan.{Plan}
-use Rattle.turns.specs.Turns.{data_at, turn_of, began_after, made_now, plan_for, plan_from, plan_of}
+use Rattle.turns.specs.Turns.{data_at, turn_of, began_after, made_now, next_for, plan_for, plan_from, plan_of}
 use Rattle.sessions.proofs.Lines.{save_data, step_data, none_held}
 use Rattle.sessions.specs.declared.Session.{Session}
 use Rattle.sessions.specs.declared.Answered.{Answered}
@@ -56,7 +59,6 @@ use Rattle.sessions.specs.Sessions.{
   next_of,
   stand_in,
   next_in,
-  is_made_in,
   MadeOne,
 }
 
@@ -139,30 +141,21 @@ made_one text call own begins s place t a l r l' r' out out' size n hb es e ea c
     λ i. nexts (answer i ∷ []) (stands place 0 (board i)) (kept i)
 
 -- ---- steps
-made_same : (a : Answer) (l r out : List ℕ) → is_made (answer_in a l r out) ≡ is_made_in a
-made_same A.TheVariants.Nothing l r out = refl
-made_same A.TheVariants.Begun l r out = refl
-made_same A.TheVariants.Made l r out = refl
-made_same A.TheVariants.Ended l r out = refl
-made_same (A.TheVariants.Number n) l r out = refl
-made_same (A.TheVariants.Part o n) l r out = refl
-made_same (A.TheVariants.Output n) l r out = refl
-
-is_made_lem : (x : C.Answer) → is_made x ≡ true → x ≡ C.made
-is_made_lem (C.number n) e = cc
-is_made_lem C.begun e = cc
-is_made_lem C.made e = refl
-is_made_lem C.ended e = cc
-is_made_lem (C.bytes part) e = cc
-is_made_lem (C.output n out) e = cc
-is_made_lem C.nothing e = cc
+unmade : (a : Answer) (l r out : List ℕ) → (a ≡ A.TheVariants.Made → ⊥) → is_made (answer_in a l r out) ≡ false
+unmade A.TheVariants.Nothing l r out h = refl
+unmade A.TheVariants.Begun l r out h = refl
+unmade A.TheVariants.Made l r out h = absurd (h refl)
+unmade A.TheVariants.Ended l r out h = refl
+unmade (A.TheVariants.Number n) l r out h = refl
+unmade (A.TheVariants.Part o n) l r out h = refl
+unmade (A.TheVariants.Output n) l r out h = refl
 
 -- a step with the data that the line has, and with the held data
-held_turn : (hand : Hand) (held l r : List ℕ)
+held_turn : (hand : Option Walk) (held l r : List ℕ)
     → turn (board_in hand held l r) (C.step held) ≡ turn (board_in hand held l r) (C.step (held_in (hand_in hand held)))
 unfolding turn
-held_turn H.TheVariants.Empty held l r = refl
-held_turn (H.TheVariants.Holding w) held l r = refl
+held_turn None held l r = refl
+held_turn (Some w) held l r = refl
 
 -- one answer to so many calls, of which there is one
 one_time : (n : ℕ) (x y : C.Answer) → replicate n x ≡ y ∷ [] → x ≡ y
@@ -221,8 +214,8 @@ step_by text s k q l r out more made =
     (nexts (replicate (suc k) t.answer) (stands s.at 0 t.board) out))
     made)
 
-pub step_made : (text : List ℕ) (s : Session) (m : Answered) (k : ℕ) (b : Bool) (l r l' r' unused out rest : List ℕ)
-    → length unused ≡ 0 → rest ≡ out → OneStep text s m l r l' r' unused → b ≡ is_made_in m.answer → b ≡ true
+pub step_made : (text : List ℕ) (s : Session) (m : Answered) (k : ℕ) (l r l' r' unused out rest : List ℕ)
+    → length unused ≡ 0 → rest ≡ out → OneStep text s m l r l' r' unused → m.answer ≡ A.TheVariants.Made
     → (s.left ≡ 0 → ⊥) → k ≡ s.left - 1
     → next_in text
     (record {
@@ -233,29 +226,24 @@ pub step_made : (text : List ℕ) (s : Session) (m : Answered) (k : ℕ) (b : Bo
     })
     l' r' (unused ++ rest)
     ≡ next_of text (stand_in text s l r) out
-step_made text s m k b l r l' r' unused out rest n er e f h some_left ek =
+step_made text s m k l r l' r' unused out rest n er e f some_left ek =
     let x = one_step text s m l r l' r' unused n e in
-    let y = answer_in m.answer l' r' [] in
-    let made : is_made (step_turn text s l r).answer ≡ true =
-    ap is_made (sym x.answer) ∙ made_same m.answer l' r' [] ∙ sym f ∙ h in
-    let here : y ≡ C.made = is_made_lem y (ap is_made x.answer ∙ made) in
+    let here : answer_in m.answer l' r' [] ≡ C.made = ap (λ (a : Answer). answer_in a l' r' []) f in
     (λ i. nexts (here i ∷ []) (stands (x.at i) k (x.board i)) (nothing_in unused n i ++ er i))
-    ∙ step_by text s k true l r out (omega arith) made
+    ∙ step_by text s k true l r out (omega arith) (ap is_made (sym x.answer ∙ here))
 
-pub step_unmade : (text : List ℕ) (s : Session) (m : Answered) (b : Bool) (l r l' r' unused out rest : List ℕ)
-    → length unused ≡ 0 → rest ≡ out → OneStep text s m l r l' r' unused → b ≡ is_made_in m.answer → b ≡ false
+pub step_unmade : (text : List ℕ) (s : Session) (m : Answered) (l r l' r' unused out rest : List ℕ)
+    → length unused ≡ 0 → rest ≡ out → OneStep text s m l r l' r' unused → (m.answer ≡ A.TheVariants.Made → ⊥)
     → (s.left ≡ 0 → ⊥)
     → next_in text (record { session = m.session; times = s.left; answer = m.answer; len = 0 }) l' r' (unused ++ rest)
     ≡ next_of text (stand_in text s l r) out
-step_unmade text s m b l r l' r' unused out rest n er e f h some_left =
+step_unmade text s m l r l' r' unused out rest n er e f some_left =
     let x = one_step text s m l r l' r' unused n e in
-    let unmade : is_made (step_turn text s l r).answer ≡ false =
-    ap is_made (sym x.answer) ∙ made_same m.answer l' r' [] ∙ sym f ∙ h in
     let more : s.left ≡ suc (s.left - 1) = omega arith in
     (λ i.
     nexts (replicate (more i) (x.answer i)) (stands (x.at i) (x.left i) (x.board i))
     (nothing_in unused n i ++ er i))
-    ∙ step_by text s (s.left - 1) false l r out more unmade
+    ∙ step_by text s (s.left - 1) false l r out more (ap is_made (sym x.answer) ∙ unmade m.answer l' r' [] f)
 
 -- ---- a line
 -- of which no call is made now
@@ -271,13 +259,13 @@ pub line_made : (text : List ℕ) (s : Session) (x : Answered) (place n : ℕ) (
     → x.len ≡ n → length part ≡ n
     → (let u = turn (board_in s.hand (data_at text s.began) l r) c in
     next_in text x l' r' part ≡ nexts (u.answer ∷ []) (stands place 0 u.board) kept)
-    → kept ++ drop (n - 0) out ≡ out_after c (board_in s.hand (data_at text s.began) l r) out
+    → kept ++ drop n out ≡ out_after c (board_in s.hand (data_at text s.began) l r) out
     → place ≡ next_line text s.at → line_orders (line_at text s.at) out ≡ one c ∷ [] → s.left ≡ 0
-    → next_in text x l' r' (part ++ drop (n - 0) out) ≡ next_of text (stand_in text s l r) out
+    → next_in text x l' r' (part ++ drop n out) ≡ next_of text (stand_in text s l r) out
 unfolding next_of
 line_made text s x place n c l r l' r' out part kept en ep e ek epl eo z =
     let b = board_in s.hand (data_at text s.began) l r in
-    let rest = drop (n - 0) out in
+    let rest = drop n out in
     let front : take x.len (part ++ rest) ≡ take x.len part = take_front part rest x.len (ep ∙ sym en) in
     ap (λ (w : List ℕ). nexts (replicate x.times (answer_in x.answer l' r' w)) (stand_in text x.session l' r')
     (part ++ rest)) front
@@ -285,50 +273,60 @@ line_made text s x place n c l r l' r' out part kept en ep e ek epl eo z =
     ∙ ap (λ (w : List ℕ). nexts ((turn b c).answer ∷ []) (stands place 0 (turn b c).board) w) ek
     ∙ (λ i. order_next (epl i) b out (sym eo i)) ∙ ap (λ (m : ℕ). next_from text s.at m b out) (sym z)
 
-pub copy_size : (n : ℕ) (out : List ℕ) → n ≤ length out → length (take (n - 0) out) ≡ n
+pub copy_size : (n : ℕ) (out : List ℕ) → n ≤ length out → length (take n out) ≡ n
 copy_size n out h =
-    let m : n - 0 ≡ n = omega arith in ap (λ (k : ℕ). length (take k out)) m ∙ length-take-le n out h
+    length-take-le n out h
 
--- by the plan for it: steps are left
+-- by the plan for it
 asked : (text : List ℕ) (place : ℕ) (out : List ℕ) (asks : Asks) → asks_of (line_at text place) ≡ asks
     → line_orders (line_at text place) out ≡ order_for asks (bytes_of (word_at 2 (line_at text place))) out
 asked text place out asks e = ap (λ (x : Asks). order_for x (bytes_of (word_at 2 (line_at text place))) out) e
 
-true_false : true ≡ false → ⊥
-true_false e = let z : ◌≡◌ {A = ℕ} 0 1 = cc in absurd (omega (arith, z))
-
-left_over : (text : List ℕ) (at after end : ℕ) (b : Board) (out : List ℕ) (asks : Asks)
-    → asks_of (line_at text at) ≡ asks → (plan_for asks at after end (length out)).made ≡ false
-    → order_next after b out (line_orders (line_at text at) out)
-    ≡ nexts [] (stands after (plan_for asks at after end (length out)).steps b) out
-left_over text at after end b out T.nothing e f = ap (order_next after b out) (asked text at out _ e)
-left_over text at after end b out (T.save o) e f = absurd (true_false f)
-left_over text at after end b out T.format e f = absurd (true_false f)
-left_over text at after end b out (T.steps n) e f = ap (order_next after b out) (asked text at out _ e)
-left_over text at after end b out T.step_with e f = absurd (true_false f)
-left_over text at after end b out (T.read o n) e f = absurd (true_false f)
-left_over text at after end b out (T.read_into o n) e f =
-    ap (order_next after b out)
-    (asked text at out _ e ∙ ap (λ (t : Bool). cond t (one (C.read_into o (take n out)) ∷ []) []) f)
-left_over text at after end b out T.cut e f = absurd (true_false f)
-left_over text at after end b out (T.wrong fault n) e f = ap (order_next after b out) (asked text at out _ e)
-
--- or its call is made
-pub record Ready (text : List ℕ) (at : ℕ) (p : Plan) (l r out : List ℕ) : Type 0 where
-  pub fits : p.size ≤ length out
-  pub times : times_of p.call ≡ 1
-  pub own : data_at text p.begins ≡ own_of p.call (data_at text p.place)
+-- its call is made
+pub record Ready (text : List ℕ) (at : ℕ) (j : Job) (l r out : List ℕ) : Type 0 where
+  pub fits : j.size ≤ length out
+  pub times : times_of j.call ≡ 1
+  pub own : data_at text j.begins ≡ own_of j.call (data_at text j.place)
   pub made : C.Call
-  pub calls : calls_in p.call (data_at text p.place) (take (p.size - 0) out) ≡ made ∷ []
+  pub calls : calls_in j.call (data_at text j.place) (take j.size out) ≡ made ∷ []
   pub order : line_orders (line_at text at) out ≡ one made ∷ []
   pub kept : (b : Board) → b.left ≡ l → b.right ≡ r
-      → lent p.call l r (take (p.size - 0) out) ++ drop (p.size - 0) out ≡ out_after made b out
+      → lent j.call l r (take j.size out) ++ drop j.size out ≡ out_after made b out
 
-ready : (text : List ℕ) (at after : ℕ) (asks : Asks) (l r out : List ℕ) → asks_of (line_at text at) ≡ asks
-    → (plan_for asks at after (length text) (length out)).made ≡ true
-    → Ready text at (plan_for asks at after (length text) (length out)) l r out
-ready text at after T.nothing l r out e f = absurd (true_false (sym f))
-ready text at after (T.save o) l r out e f =
+-- or steps are left
+abbrev Meant : List ℕ → ℕ → List ℕ → List ℕ → List ℕ → N.Next → Type 0
+Meant text at l r out (N.TheVariants.Make j) = Ready text at j l r out
+Meant text at l r out (N.TheVariants.Steps n) =
+    (after : ℕ) (b : Board)
+    → order_next after b out (line_orders (line_at text at) out) ≡ nexts [] (stands after n b) out
+
+copy_meant : (text : List ℕ) (at : ℕ) (o : PageOffset) (n : ℕ) (l r out : List ℕ) (t : Bool)
+    → asks_of (line_at text at) ≡ T.read_into o n → leb n (length out) ≡ t
+    → Meant text at l r out
+    (cond t (made_now (L.TheVariants.ReadInto o) (length text) (length text) n) (N.TheVariants.Steps 0))
+copy_meant text at o n l r out true e f =
+    let h : n ≤ length out = leb-true n (length out) f in
+    let size : length (take n out) ≡ n = length-take-le n out h in
+    record {
+      fits = h;
+      times = refl;
+      own = none_held text;
+      made = C.read_into o (take n out);
+      calls = refl;
+      order =
+          asked text at out _ e ∙ ap (λ (t : Bool). cond t (one (C.read_into o (take n out)) ∷ []) []) f;
+      kept =
+          λ b p q.
+          (λ i. (filled (sym p i) (sym q i) o (take n out)).bytes ++ drop (sym size i) out);
+    }
+copy_meant text at o n l r out false e f = λ after b.
+    ap (order_next after b out)
+    (asked text at out _ e ∙ ap (λ (t : Bool). cond t (one (C.read_into o (take n out)) ∷ []) []) f)
+
+meant : (text : List ℕ) (at : ℕ) (asks : Asks) (l r out : List ℕ) → asks_of (line_at text at) ≡ asks
+    → Meant text at l r out (next_for asks at (length text) (length out))
+meant text at T.nothing l r out e = λ after b. ap (order_next after b out) (asked text at out _ e)
+meant text at (T.save o) l r out e =
     record {
       fits = omega arith;
       times = refl;
@@ -338,7 +336,7 @@ ready text at after (T.save o) l r out e f =
       order = asked text at out _ e ∙ ap (λ (x : List ℕ). one (C.save o x) ∷ []) (sym (save_data text at o e));
       kept = λ b p q. refl;
     }
-ready text at after T.format l r out e f =
+meant text at T.format l r out e =
     record {
       fits = omega arith;
       times = refl;
@@ -348,8 +346,8 @@ ready text at after T.format l r out e f =
       order = asked text at out _ e;
       kept = λ b p q. refl;
     }
-ready text at after (T.steps n) l r out e f = absurd (true_false (sym f))
-ready text at after T.step_with l r out e f =
+meant text at (T.steps n) l r out e = λ after b. ap (order_next after b out) (asked text at out _ e)
+meant text at T.step_with l r out e =
     record {
       fits = omega arith;
       times = refl;
@@ -359,7 +357,7 @@ ready text at after T.step_with l r out e f =
       order = asked text at out _ e ∙ ap (λ (x : List ℕ). one (C.step x) ∷ []) (sym (step_data text at e));
       kept = λ b p q. refl;
     }
-ready text at after (T.read o n) l r out e f =
+meant text at (T.read o n) l r out e =
     record {
       fits = omega arith;
       times = refl;
@@ -369,24 +367,8 @@ ready text at after (T.read o n) l r out e f =
       order = asked text at out _ e;
       kept = λ b p q. refl;
     }
-ready text at after (T.read_into o n) l r out e f =
-    let h : n ≤ length out = leb-true n (length out) f in
-    let m : n ≡ n - 0 = omega arith in
-    let size : length (take (n - 0) out) ≡ n - 0 = length-take-le (n - 0) out (omega arith) in
-    record {
-      fits = h;
-      times = refl;
-      own = none_held text;
-      made = C.read_into o (take (n - 0) out);
-      calls = refl;
-      order =
-          asked text at out _ e ∙ ap (λ (t : Bool). cond t (one (C.read_into o (take n out)) ∷ []) []) f
-          ∙ ap (λ (k : ℕ). one (C.read_into o (take k out)) ∷ []) m;
-      kept =
-          λ b p q.
-          (λ i. (filled (sym p i) (sym q i) o (take (n - 0) out)).bytes ++ drop (sym size i) out);
-    }
-ready text at after T.cut l r out e f =
+meant text at (T.read_into o n) l r out e = copy_meant text at o n l r out (leb n (length out)) e refl
+meant text at T.cut l r out e =
     record {
       fits = omega arith;
       times = refl;
@@ -396,7 +378,7 @@ ready text at after T.cut l r out e f =
       order = asked text at out _ e;
       kept = λ b p q. refl;
     }
-ready text at after (T.wrong fault n) l r out e f = absurd (true_false (sym f))
+meant text at (T.wrong fault n) l r out e = λ after b. ap (order_next after b out) (asked text at out _ e)
 
 -- ---- what is done next
 -- a line, where no steps are left
@@ -407,15 +389,18 @@ unfolding plan_of
 line_plan text s p out e z = e ∙ ap (λ (n : ℕ). plan_from text s.at s.began n (length out)) z
 
 -- a step, where some are
+abbrev step_job : List ℕ → Session → Job
+step_job text s = record { call = L.TheVariants.Step 1; place = s.began; begins = length text; size = 0 }
+
 step_plan : (text : List ℕ) (s : Session) (p : Plan) (out : List ℕ)
     → p ≡ plan_of text s.at s.began s.left (length out) → (s.left ≡ 0 → ⊥)
-    → p ≡ made_now true s.at (L.TheVariants.Step 1) s.began (length text) 0
+    → ◌≡◌ {A = Plan} p (record { after = s.at; next = N.TheVariants.Make (step_job text s) })
 unfolding plan_of
 step_plan text s p out e h = e ∙ go s.left h
   where
     go : (n : ℕ) → (n ≡ 0 → ⊥)
-        → plan_from text s.at s.began n (length out)
-        ≡ made_now true s.at (L.TheVariants.Step 1) s.began (length text) 0
+        → ◌≡◌ {A = Plan} (plan_from text s.at s.began n (length out))
+        (record { after = s.at; next = N.TheVariants.Make (step_job text s) })
     go zero k = absurd (k refl)
     go (suc n) k = refl
 
@@ -424,52 +409,50 @@ either : (n : ℕ) (A : Type 0) → (n ≡ 0 → A) → ((n ≡ 0 → ⊥) → A
 either zero A f g = f refl
 either (suc n) A f g = g (λ e. absurd (omega arith))
 
-pub line_ready : (text : List ℕ) (s : Session) (p : Plan) (l r out : List ℕ)
-    → p ≡ plan_of text s.at s.began s.left (length out) → not p.made ≡ false → s.left ≡ 0
-    → Ready text s.at p l r out
-line_ready text s p l r out e f z =
-    let ep = line_plan text s p out e z in
-    subst (λ (x : Plan). Ready text s.at x l r out) (sym ep)
-    (ready text s.at (next_line text s.at) (asks_of (line_at text s.at)) l r out refl
-    (ap (λ (x : Plan). x.made) (sym ep) ∙ not-false p.made f))
+line_meant : (text : List ℕ) (s : Session) (p : Plan) (x : N.Next) (l r out : List ℕ)
+    → p ≡ plan_of text s.at s.began s.left (length out) → p.next ≡ x → s.left ≡ 0
+    → Meant text s.at l r out x
+line_meant text s p x l r out e f z =
+    subst (Meant text s.at l r out) (sym (ap (λ (q : Plan). q.next) (line_plan text s p out e z)) ∙ f)
+    (meant text s.at (asks_of (line_at text s.at)) l r out refl)
+
+pub line_ready : (text : List ℕ) (s : Session) (p : Plan) (j : Job) (l r out : List ℕ)
+    → p ≡ plan_of text s.at s.began s.left (length out) → p.next ≡ N.TheVariants.Make j → s.left ≡ 0
+    → Ready text s.at j l r out
+line_ready text s p j l r out e f z = line_meant text s p (N.TheVariants.Make j) l r out e f z
+
+step_ready : (text : List ℕ) (s : Session) (p : Plan) (j : Job) (out : List ℕ)
+    → p ≡ plan_of text s.at s.began s.left (length out) → p.next ≡ N.TheVariants.Make j → (s.left ≡ 0 → ⊥)
+    → step_job text s ≡ j
+step_ready text s p j out e f z =
+    let same : N.TheVariants.Make (step_job text s) ≡ N.TheVariants.Make j =
+    sym (ap (λ (q : Plan). q.next) (step_plan text s p out e z)) ∙ f in
+    cc
 
 -- the output has room, and the call one answer and data of its own
-pub record Makes (text : List ℕ) (p : Plan) (out : List ℕ) : Type 0 where
-  pub fits : p.size ≤ length out
-  pub times : times_of p.call ≡ 1
-  pub own : data_at text p.begins ≡ own_of p.call (data_at text p.place)
+pub record Makes (text : List ℕ) (j : Job) (out : List ℕ) : Type 0 where
+  pub fits : j.size ≤ length out
+  pub times : times_of j.call ≡ 1
+  pub own : data_at text j.begins ≡ own_of j.call (data_at text j.place)
 
-pub makes : (text : List ℕ) (s : Session) (p : Plan) (out : List ℕ)
-    → p ≡ plan_of text s.at s.began s.left (length out) → not p.made ≡ false → Makes text p out
-makes text s p out e f =
-    either s.left (Makes text p out)
-    (λ z. let x = line_ready text s p [] [] out e f z in record { fits = x.fits; times = x.times; own = x.own })
+pub makes : (text : List ℕ) (s : Session) (p : Plan) (j : Job) (out : List ℕ)
+    → p ≡ plan_of text s.at s.began s.left (length out) → p.next ≡ N.TheVariants.Make j → Makes text j out
+makes text s p j out e f =
+    either s.left (Makes text j out)
+    (λ z. let x = line_ready text s p j [] [] out e f z in record { fits = x.fits; times = x.times; own = x.own })
     (λ z.
-    subst (λ (x : Plan). Makes text x out) (sym (step_plan text s p out e z))
+    subst (λ (x : Job). Makes text x out) (step_ready text s p j out e f z)
     (record { fits = omega arith; times = refl; own = none_held text }))
-
-after_same : (asks : Asks) (at after end room : ℕ) → (plan_for asks at after end room).after ≡ after
-after_same T.nothing at after end room = refl
-after_same (T.save o) at after end room = refl
-after_same T.format at after end room = refl
-after_same (T.steps n) at after end room = refl
-after_same T.step_with at after end room = refl
-after_same (T.read o n) at after end room = refl
-after_same (T.read_into o n) at after end room = refl
-after_same T.cut at after end room = refl
-after_same (T.wrong fault n) at after end room = refl
 
 pub line_after : (text : List ℕ) (s : Session) (p : Plan) (out : List ℕ)
     → p ≡ plan_of text s.at s.began s.left (length out) → s.left ≡ 0 → p.after ≡ next_line text s.at
-line_after text s p out e z =
-    ap (λ (x : Plan). x.after) (line_plan text s p out e z)
-    ∙ after_same (asks_of (line_at text s.at)) s.at (next_line text s.at) (length text) (length out)
+line_after text s p out e z = ap (λ (x : Plan). x.after) (line_plan text s p out e z)
 
-pub passed : (text : List ℕ) (s : Session) (p : Plan) (l r out : List ℕ)
-    → p ≡ plan_of text s.at s.began s.left (length out) → not p.made ≡ true
+pub passed : (text : List ℕ) (s : Session) (p : Plan) (left : ℕ) (l r out : List ℕ)
+    → p ≡ plan_of text s.at s.began s.left (length out) → p.next ≡ N.TheVariants.Steps left
     → next_in text
     (record {
-      session = record { hand = s.hand; began = s.began; at = p.after; left = p.steps };
+      session = record { hand = s.hand; began = s.began; at = p.after; left = left };
       times = 0;
       answer = A.TheVariants.Nothing;
       len = 0;
@@ -477,37 +460,36 @@ pub passed : (text : List ℕ) (s : Session) (p : Plan) (l r out : List ℕ)
     l r out
     ≡ next_of text (stand_in text s l r) out
 unfolding next_of
-passed text s p l r out e f =
+passed text s p left l r out e f =
     either s.left _
     (λ z.
-    let ep = line_plan text s p out e z in
     let b = board_in s.hand (data_at text s.began) l r in
-    let asks = asks_of (line_at text s.at) in
-    let after = next_line text s.at in
-    let same : p.after ≡ after = line_after text s p out e z in
-    (λ i. nexts [] (stands (same i) (ep i).steps b) out)
-    ∙ sym (left_over text s.at after (length text) b out asks refl
-    (ap (λ (x : Plan). x.made) (sym ep) ∙ not-true p.made f))
+    sym (line_meant text s p (N.TheVariants.Steps left) l r out e f z p.after b)
+    ∙ (λ i. order_next (line_after text s p out e z i) b out (line_orders (line_at text s.at) out))
     ∙ ap (λ (m : ℕ). next_from text s.at m b out) (sym z))
     (λ z.
-    absurd (true_false (ap (λ (x : Plan). x.made) (sym (step_plan text s p out e z)) ∙ not-true p.made f)))
+    let same : N.TheVariants.Make (step_job text s) ≡ N.TheVariants.Steps left =
+    sym (ap (λ (q : Plan). q.next) (step_plan text s p out e z)) ∙ f in
+    cc)
 
 -- a step that is left, as it was made by its plan
 pub record Stepped (text : List ℕ) (s : Session) (m : Answered) (l r l' r' unused out : List ℕ)
-    (p : Plan) : Type 0 where
+    (j : Job) : Type 0 where
   pub step : OneStep text s m l r l' r' unused
   pub empty : length unused ≡ 0
-  pub rest : drop (p.size - 0) out ≡ out
+  pub rest : drop j.size out ≡ out
 
-abbrev StepsBy : List ℕ → Session → Answered → List ℕ → List ℕ → List ℕ → List ℕ → List ℕ → List ℕ → Plan → Type 0
-StepsBy text s m l r l' r' unused out p =
-    length unused ≡ length (take (p.size - 0) out)
-    → MadeOne text p.call p.place s p.after m l r l' r' (take (p.size - 0) out) unused
-    → Stepped text s m l r l' r' unused out p
+abbrev StepsBy : List ℕ → Session → ℕ → Answered → List ℕ → List ℕ → List ℕ → List ℕ → List ℕ → List ℕ → Job → Type 0
+StepsBy text s after m l r l' r' unused out j =
+    length unused ≡ length (take j.size out)
+    → MadeOne text j.call j.place s after m l r l' r' (take j.size out) unused
+    → Stepped text s m l r l' r' unused out j
 
-pub stepped : (text : List ℕ) (s : Session) (m : Answered) (l r l' r' unused out : List ℕ) (p : Plan)
-    → p ≡ plan_of text s.at s.began s.left (length out) → (s.left ≡ 0 → ⊥)
-    → StepsBy text s m l r l' r' unused out p
-stepped text s m l r l' r' unused out p e z =
-    subst (StepsBy text s m l r l' r' unused out) (sym (step_plan text s p out e z))
-    (λ n x. record { step = x.1 (C.step (data_at text s.began)) refl; empty = n; rest = refl })
+pub stepped : (text : List ℕ) (s : Session) (m : Answered) (l r l' r' unused out : List ℕ) (p : Plan) (j : Job)
+    → p ≡ plan_of text s.at s.began s.left (length out) → p.next ≡ N.TheVariants.Make j → (s.left ≡ 0 → ⊥)
+    → StepsBy text s p.after m l r l' r' unused out j
+stepped text s m l r l' r' unused out p j e f z =
+    let after : s.at ≡ p.after = sym (ap (λ (q : Plan). q.after) (step_plan text s p out e z)) in
+    subst (λ (n : ℕ). StepsBy text s n m l r l' r' unused out j) after
+    (subst (StepsBy text s s.at m l r l' r' unused out) (step_ready text s p j out e f z)
+    (λ n x. record { step = x.1 (C.step (data_at text s.began)) refl; empty = n; rest = refl }))

@@ -2,15 +2,14 @@
 -- Assumes nothing.
 use Prim.Native.Nat.{ℕ, ◌-◌, ◌/◌, ◌%◌, ◌≤◌}
 use mathlib.Core.Path.{◌≡◌, sym, ap}
-use mathlib.Core.Bool.{Bool, cond}
+use mathlib.Core.Bool.{Bool, true, cond}
 use mathlib.Core.List.{List, []}
 use native.Mathlib.Omega.{arith}
-use lib.ListN.{length, replicate}
+use lib.ListN.{length, replicate, drop_of_length-le}
 use borrow.Author.Tests.{le-leb}
 use Rattle.pages.specs.declared.PageOffset.{PageOffset}
-use Rattle.texts.specs.Texts.{before_first, line_at, stride_of, word_at}
+use Rattle.texts.specs.Texts.{before_first, ending, is, line_at, on_from, stride_of, trimmed, up_to, used, without_comment, without_return, word_at}
 use Rattle.digits.specs.Digits.{bytes_of}
-use Rattle.texts.proofs.Laws.{no_line}
 use Rattle.digits.proofs.Laws.{bytes_length}
 use Rattle.asks.specs.Asks as T
 use Rattle.asks.specs.Asks.{asks_of}
@@ -31,10 +30,14 @@ pub step_data : (text : List ℕ) (place : ℕ) → asks_of (line_at text place)
     → data_at text place ≡ bytes_of (word_at 2 (line_at text place))
 step_data text place e = fits (line_at text place) (handed (line_at text place) T.step_with e)
 
-pub copy_fits : (line : List ℕ) (o : PageOffset) (n : ℕ) → asks_of line ≡ T.read_into o n → n ≤ 4096
-copy_fits line o n e = handed line (T.read_into o n) e
+-- past the end of a text there is no line, and so no data
+no_line : (text : List ℕ) (place : ℕ) → length text ≤ place → [] ≡ line_at text place
+unfolding line_at before_first without_comment without_return used
+no_line text place h =
+    sym
+    (ap (λ (t : List ℕ). on_from (ending true) (trimmed (without_comment (up_to (is 10) t))))
+    (drop_of_length-le text h))
 
--- past the end of a text there is no data
 pub none_held : (text : List ℕ) → data_at text (length text) ≡ []
 unfolding word_at bytes_of before_first stride_of
 none_held text =

@@ -2,11 +2,11 @@
 -- script.
 -- In order: lines; orders; the steps of a line; the next call; a whole script.
 -- Assumes nothing.
+use Rattle.std.specs.Prelude.{Option, Some, None}
 use Prim.Native.Nat.{ℕ, zero, suc, ◌+◌, ◌-◌, ◌<◌, ◌≤◌}
 use mathlib.Core.Path.{◌≡◌, refl, sym, ap, subst, ◌∙◌}
 use mathlib.Core.Bool.{Bool, true, false, cond}
 use mathlib.Core.List.{List, [], ◌∷◌, ◌++◌, append_assoc, append-nil}
-use mathlib.Core.Option.{Option, none, some}
 use native.Mathlib.Omega.{arith}
 use lib.Dec.{eqb, ltb, leb}
 use lib.ListN.{length, take, drop, replicate, length-drop, drop_of_length-le}
@@ -93,8 +93,8 @@ unfolding turn
 still_held b d = go b.hand refl
   where
     go : (hand : Option B.Hand) → b.hand ≡ hand → held_in (step_hand b hand d).board.hand ≡ held_in b.hand
-    go none e = refl
-    go (some h) e = ap held_in (sym e)
+    go None e = refl
+    go (Some h) e = ap held_in (sym e)
 
 -- a step that isn't made changes nothing
 unmade_stays : (b : Board) (d : List ℕ) → is_made (turn b (C.step d)).answer ≡ false → (turn b (C.step d)).board ≡ b
@@ -103,8 +103,8 @@ unmade_stays b d f = go b.hand refl f
   where
     go : (hand : Option B.Hand) → b.hand ≡ hand → is_made (step_hand b hand d).answer ≡ false
         → (step_hand b hand d).board ≡ b
-    go none e f = refl
-    go (some h) e f =
+    go None e f = refl
+    go (Some h) e f =
         let o = step_of h.walk b.left b.right (handed h.held d) in
         let keeps = unmade_keeps h.walk b.left b.right (handed h.held d) (λ z. unlike o.said z f) in
         ap (λ (x : W.Outcome). (after_step h.held x).board) keeps
@@ -169,8 +169,8 @@ step_quiet b d = go b.hand
     said_quiet W.ended = refl
 
     go : (hand : Option B.Hand) → is_begun (step_hand b hand d).answer ≡ false
-    go none = refl
-    go (some h) = said_quiet (step_of h.walk b.left b.right (handed h.held d)).said
+    go None = refl
+    go (Some h) = said_quiet (step_of h.walk b.left b.right (handed h.held d)).said
 
 all_quiet : (n : ℕ) (x : C.Answer) → is_begun x ≡ false → Quiet (replicate n x)
 all_quiet zero x e = tt

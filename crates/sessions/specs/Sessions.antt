@@ -2,17 +2,15 @@
 -- In order: its lines and their orders; where a script stands; the next call; a session of the code.
 -- Not here: what a line asks for (the crate asks), the calls of orders and their answers (model).
 -- Laws: proofs/. Assumes nothing.
-use Rattle.std.specs.Prelude.{ℕ, zero, suc, ◌≡◌, Bool, true, false, cond, not, ◌||◌, List, [], ◌∷◌, ◌++◌, eqb, ltb, leb, length, take, drop, replicate}
+use Rattle.std.specs.Prelude.{None}
+use Rattle.std.specs.Prelude.{ℕ, zero, suc, ◌≡◌, Bool, true, cond, not, ◌||◌, List, [], ◌∷◌, ◌++◌, eqb, ltb, leb, length, take, drop, replicate}
 use Rattle.pages.specs.declared.PageOffset.{PageOffset}
 use Rattle.reads.specs.Reads.{filled}
 use Rattle.model.specs.Calls as C
 use Rattle.model.specs.Board.{Board, Turn, powered, turn, board_after}
 use Rattle.model.specs.Decided.{is_made}
 use Rattle.model.specs.Orders.{Order, one, held, held_in, calls_from}
-use Rattle.boards.specs.declared.Hand.TheVariants.{Empty}
 use Rattle.boards.specs.declared.Call.{Call}
-use Rattle.boards.specs.declared.Answer.{Answer}
-use Rattle.boards.specs.declared.Answer as A
 use Rattle.boards.specs.Boards.{answer_in, board_in, calls_in, out_after as lent}
 use Rattle.turns.specs.Turns.{zeros, data_at}
 use Rattle.texts.specs.Texts.{ending, on_from, trimmed, without_comment, line_at, next_line, word_at}
@@ -142,21 +140,11 @@ next_in text x l r out =
 
 -- before its first line, with no walk in hand
 abbrev pub begins : Session
-begins = record { hand = Empty; began = 0; at = 0; left = 0 }
+begins = record { hand = None; began = 0; at = 0; left = 0 }
 
 -- whether something is left of a script: steps of a line, or a line
 abbrev pub is_on : List ℕ → Session → Bool
 is_on text s = not (eqb s.left 0) || ltb s.at (length text)
-
--- whether an answer says that a step is made
-abbrev pub is_made_in : Answer → Bool
-is_made_in A.TheVariants.Nothing = false
-is_made_in A.TheVariants.Begun = false
-is_made_in A.TheVariants.Made = true
-is_made_in A.TheVariants.Ended = false
-is_made_in (A.TheVariants.Number n) = false
-is_made_in (A.TheVariants.Part o n) = false
-is_made_in (A.TheVariants.Output n) = false
 
 -- one call made, with the data of the line at a place
 abbrev pub MadeOne : List ℕ → Call → ℕ → Session → ℕ → Answered → List ℕ → List ℕ → List ℕ → List ℕ → List ℕ → List ℕ

@@ -14,17 +14,18 @@ ghost use Rattle.sessions.specs.Sessions.{
   next_in,
   begins,
   is_on,
-  is_made_in,
   MadeOne,
 };
 
-use boards::{Answer, Hand};
+use boards::Answer;
+use turns::{Job, Next};
+use walks::Walk;
 
 // The walk in hand, where the line is that began it, where the next line is, and how many steps of the
 // line before that are still to be made.
 #[derive(Clone, Copy)]
 pub struct Session {
-    pub hand: Hand,
+    pub hand: Option<Walk>,
     pub began: usize,
     pub at: usize,
     pub left: u32,
@@ -46,7 +47,7 @@ impl Session {
         ensures { result ≡ begins }
     {
         Session {
-            hand: Hand::Empty,
+            hand: None,
             began: 0,
             at: 0,
             left: 0,
@@ -57,44 +58,25 @@ impl Session {
     pub fn is_on(self, text: &[u8]) -> bool
         ensures { result ≡ is_on text.now self }
     {
-        if self.left == 0 {
-            return self.at < text.len();
-        }
-        true
+        self.left != 0 || self.at < text.len()
     }
 }
 
 // ---- one call
-fn is_made(answer: Answer) -> bool
-    ensures { result ≡ is_made_in answer }
-{
-    match answer {
-        Answer::Nothing => false,
-        Answer::Begun => false,
-        Answer::Made => true,
-        Answer::Ended => false,
-        Answer::Number(_) => false,
-        Answer::Part(_, _) => false,
-        Answer::Output(_) => false,
-    }
-}
-
-// Makes a call of one answer, with the data of the line at a place and this output; what the engine
-// counts as made is made. A walk that it begins is begun by the line at `begins`.
+// Makes a call, which has one answer, with this output; the line after it is at `after`. What the engine
+// counts as made is made.
 fn make_one(
     text: &[u8],
-    call: boards::Call,
-    place: usize,
-    begins: usize,
-    session: Session,
+    job: Job,
     after: usize,
+    session: Session,
     left: &mut [u8],
     right: &mut [u8],
     out: &mut [u8],
 ) -> Answered
-    requires { (times_of call ≡ 1)
-        × (data_at text.now begins ≡ own_of call (data_at text.now place)) }
-    ensures { MadeOne text.now call place session after result
+    requires { (times_of job.call ≡ 1)
+        × (data_at text.now job.begins ≡ own_of job.call (data_at text.now job.place)) }
+    ensures { MadeOne text.now job.call job.place session after result
         left.old
         right.old
         left.new
@@ -102,31 +84,29 @@ fn make_one(
         out.old
         out.new }
 {
-    let hand = session.hand;
-    let began = session.began;
-    let size = out.len();
-    let turn = turns::make(text, call, place, begins, hand, began, left, right, out);
-    let next = turn.hand;
-    let mut answer = turn.answer;
-    if turn.made != 0 {
-        answer = Answer::Made;
-    }
+    let len = out.len();
+    let turn = turns::make(text, job, session.hand, session.began, left, right, out);
     Answered {
         session: Session {
-            hand: next,
+            hand: turn.hand,
             began: turn.began,
             at: after,
             left: 0,
         },
         times: 1,
-        answer: answer,
-        len: size,
+        answer: if turn.made == 0 {
+            turn.answer
+        } else {
+            Answer::Made
+        },
+        len,
     }
 }
 
 // ---- the next call
 // Makes the next call of a script, which may have any bytes, or passes a line that has none. A copy
 // reads into the first bytes of the output.
+#[tactic(auto, using(crate::proofs::Laws::passed))]
 pub fn next(
     text: &[u8],
     session: Session,
@@ -140,59 +120,48 @@ pub fn next(
         (stand_in text.now session left.old right.old)
         out.old }
 {
-    let pending = session.left;
-    let plan = turns::plan_next(text, session.at, session.began, pending, out.len());
-    let after = plan.after;
-    if !plan.made {
-        let hand = session.hand;
-        return Answered {
-            session: Session {
-                hand: hand,
-                began: session.began,
-                at: after,
-                left: plan.steps,
-            },
-            times: 0,
-            answer: Answer::Nothing,
-            len: 0,
-        };
-    }
-    let call = plan.call;
-    let size = plan.size;
+    let plan = turns::plan_next(text, session.at, session.began, session.left, out.len());
+    let job = match plan.next {
+        Next::Make(job) => job,
+        Next::Steps(left) => {
+            return Answered {
+                session: Session {
+                    at: plan.after,
+                    left,
+                    ..session
+                },
+                times: 0,
+                answer: Answer::Nothing,
+                len: 0,
+            };
+        }
+    };
     let made = make_one(
         text,
-        call,
-        plan.place,
-        plan.begins,
+        job,
+        plan.after,
         session,
-        after,
         left,
         right,
-        &mut out[0..size],
+        &mut out[..job.size],
     );
-    let next = made.session;
-    let answer = made.answer;
-    if pending == 0 {
+    if session.left == 0 {
         return made;
     }
-    if is_made(answer) {
-        let hand = next.hand;
-        return Answered {
+    match made.answer {
+        Answer::Made => Answered {
             session: Session {
-                hand: hand,
-                began: next.began,
-                at: next.at,
-                left: pending - 1,
+                left: session.left - 1,
+                ..made.session
             },
             times: 1,
-            answer: answer,
             len: 0,
-        };
-    }
-    Answered {
-        session: next,
-        times: pending,
-        answer: answer,
-        len: 0,
+            ..made
+        },
+        _ => Answered {
+            times: session.left,
+            len: 0,
+            ..made
+        },
     }
 }

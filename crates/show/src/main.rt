@@ -5,21 +5,46 @@
 
 ghost use Rattle.std.specs.Prelude.{◌≤◌};
 
-use arguments::Word;
-use copies::first;
-use loads::{Input, Source, Sourced};
-use pages::{ImageOffset, Live, PageOffset, Side};
-use plans::{Entry, Spot};
-use prints::Output;
-use walks::{Begun, Walk};
+use arguments::{Argument, Name, Word};
+use loads::{Origin, Source};
+use pages::{ImageOffset, PageOffset, Side};
+use plans::{ImageCell, Spot};
+use prints::{Output, VERSION};
+use std::fmt;
+use std::fmt::Write;
+use views::{InWords, Rows};
+use walks::Walk;
 
-// What is to be noted of two pages.
+// ---- what is wrong
+// Why nothing is shown.
 #[derive(Clone, Copy)]
-struct Notes {
-    one: bool,
-    shared: bool,
-    same: bool,
-    swapped: u8,
+enum Error {
+    Usage,
+    Pages(loads::Error),
+}
+
+impl From<loads::Error> for Error {
+    fn from(error: loads::Error) -> Error {
+        Error::Pages(error)
+    }
+}
+
+impl From<arguments::Error> for Error {
+    fn from(error: arguments::Error) -> Error {
+        Error::Pages(loads::Error::Argument(error))
+    }
+}
+
+impl fmt::Display for Error {
+    fn fmt<W: fmt::Write>(&self, f: &mut fmt::Formatter<W>) -> fmt::Result {
+        match self {
+            Error::Usage => write!(
+                f,
+                "usage: show [--json] LEFT RIGHT, or show [--json] --one FILE LEFT-AT RIGHT-AT LENGTH"
+            ),
+            Error::Pages(error) => write!(f, "{error}"),
+        }
+    }
 }
 
 // ---- the pages
@@ -30,551 +55,497 @@ fn image_start() -> PageOffset {
 
 // The bytes of a page from its image on.
 fn image_of(page: &[u8]) -> &[u8] {
-    if page.len() < 4 {
-        return page;
-    }
-    &page[4..]
+    page.get(image_start().0 as usize..).unwrap_or(page)
 }
 
-fn is_erased_word(page: &[u8]) -> bool {
-    pages::word(page) == 0xFFFFFFFF
+// The word of a page that is erased.
+const ERASED_WORD: u32 = 0xFFFFFFFF;
+
+// What the page that isn't live holds.
+#[derive(Clone, Copy)]
+enum Held {
+    Erased,
+    Undecided,
+    NoSettings,
+    Before,
 }
 
-// What the page that isn't live holds, by its word and its bytes: nothing (0), a save not yet decided
-// (1), no settings (2), or those before (3).
-fn held_by(page: &[u8]) -> usize {
-    if flash::erased(page) {
-        return 0;
+impl Held {
+    // By the page's word and its bytes.
+    fn by(page: &[u8]) -> Held {
+        if flash::erased(page) {
+            Held::Erased
+        } else if pages::word(page) == ERASED_WORD {
+            Held::Undecided
+        } else if flash::erased(image_of(page)) {
+            Held::NoSettings
+        } else {
+            Held::Before
+        }
     }
-    if is_erased_word(page) {
-        return 1;
+
+    // Its name in JSON.
+    fn key(self) -> &'static str {
+        match self {
+            Held::Erased => "erased",
+            Held::Undecided => "undecided",
+            Held::NoSettings => "no settings",
+            Held::Before => "before",
+        }
     }
-    if flash::erased(image_of(page)) { 2 } else { 3 }
 }
 
-// The line of two pages.
+impl fmt::Display for Held {
+    fn fmt<W: fmt::Write>(&self, f: &mut fmt::Formatter<W>) -> fmt::Result {
+        match self {
+            Held::Erased => write!(f, "is erased"),
+            Held::Undecided => write!(f, "holds a save not yet decided"),
+            Held::NoSettings => write!(f, "holds no settings: its image is all FF"),
+            Held::Before => write!(f, "holds the settings before"),
+        }
+    }
+}
+
+// Why two pages may be one by mistake.
+#[derive(Clone, Copy)]
+enum Alike {
+    OneFile,
+    SharedBytes,
+    SameBytes,
+}
+
+impl Alike {
+    // Its name in JSON.
+    fn key(self) -> &'static str {
+        match self {
+            Alike::OneFile => "one file",
+            Alike::SharedBytes => "shared bytes",
+            Alike::SameBytes => "same bytes",
+        }
+    }
+}
+
+impl fmt::Display for Alike {
+    fn fmt<W: fmt::Write>(&self, f: &mut fmt::Formatter<W>) -> fmt::Result {
+        match self {
+            Alike::OneFile => write!(f, "are one file"),
+            Alike::SharedBytes => write!(f, "share bytes of the file"),
+            Alike::SameBytes => write!(f, "hold the same bytes, are they one file?"),
+        }
+    }
+}
+
+// Two pages whose lengths are right, where they come from, and a save that is begun on them.
+#[derive(Clone, Copy)]
+struct Dump<'a> {
+    source: Source,
+    left: &'a [u8],
+    right: &'a [u8],
+    save: Walk,
+}
+
 fn line_of(left: &[u8], right: &[u8]) -> u8 {
-    let status = table::status_of(left, right);
-    let state = status.state;
-    state.line()
+    table::status_of(left, right).state.line()
 }
 
-// The line of two pages the other way round, 0 where they have one as they are.
-fn swapped_line(left: &[u8], right: &[u8]) -> u8 {
-    if line_of(left, right) != 0 {
-        return 0;
+impl Dump<'_> {
+    fn page(&self, side: Side) -> &[u8] {
+        side.pick(self.left, self.right)
     }
-    line_of(right, left)
-}
 
-fn is_same(left: &[u8], right: &[u8]) -> bool {
-    if !check::same(left, right) {
-        return false;
+    // Which page is live, if one is.
+    fn live(&self) -> Option<Side> {
+        table::status_of(self.left, self.right).live
     }
-    !flash::erased(left)
-}
 
-// Whether two parts of one length begin at one byte of one file.
-fn is_one(rt: HostRuntime, source: Source) -> bool {
-    let left = source.left;
-    let right = source.right;
-    if source.one {
-        return source.left_at == source.right_at;
+    // Whether the pages may be one.
+    fn alike(&self) -> Option<Alike> {
+        match self.source {
+            Source::Files { left, right } if left.is_same(right) => Some(Alike::OneFile),
+            Source::Parts(parts) if parts.left_at == parts.right_at => Some(Alike::OneFile),
+            Source::Parts(parts) if parts.left_at.abs_diff(parts.right_at) < parts.length => {
+                Some(Alike::SharedBytes)
+            }
+            _ if self.left == self.right && !flash::erased(self.left) => Some(Alike::SameBytes),
+            _ => None,
+        }
     }
-    arguments::is_one_name(rt, left, right)
-}
 
-fn distance(a: u32, b: u32) -> u32 {
-    if a < b { b - a } else { a - b }
-}
-
-fn is_shared(rt: HostRuntime, source: Source) -> bool {
-    if !source.one {
-        return false;
-    }
-    if is_one(rt, source) {
-        return false;
-    }
-    distance(source.left_at, source.right_at) < source.length
-}
-
-fn is_same_only(rt: HostRuntime, source: Source, left: &[u8], right: &[u8]) -> bool {
-    if is_one(rt, source) {
-        return false;
-    }
-    if is_shared(rt, source) {
-        return false;
-    }
-    is_same(left, right)
-}
-
-fn notes_of(rt: HostRuntime, source: Source, left: &[u8], right: &[u8]) -> Notes {
-    Notes {
-        one: is_one(rt, source),
-        shared: is_shared(rt, source),
-        same: is_same_only(rt, source, left, right),
-        swapped: swapped_line(left, right),
+    // The line of the pages the other way round, where they have one that way only.
+    fn swapped_line(&self) -> Option<u8> {
+        match (
+            line_of(self.left, self.right),
+            line_of(self.right, self.left),
+        ) {
+            (0, line) if line != 0 => Some(line),
+            _ => None,
+        }
     }
 }
 
-// ---- the words and the line
-fn print_sizes(out: &mut Output, image: &[u8]) {
-    let size = image.len() as u64;
-    prints::filled(
-        out,
-        b": an image of # bytes from page offset 4 on, # cells\n",
-        &[size, size / 2],
-    );
+// ---- as text
+// The word of a page, and its bytes.
+#[derive(Clone, Copy)]
+struct ManagementWord(u32);
+
+impl fmt::Display for ManagementWord {
+    fn fmt<W: fmt::Write>(&self, f: &mut fmt::Formatter<W>) -> fmt::Result {
+        let word = self.0;
+        let [valid, active, dead, spare] = word.to_le_bytes();
+        write!(
+            f,
+            "{word:08X}: Valid {valid:02X}, Active {active:02X}, Dead {dead:02X}, Spare {spare:02X}"
+        )
+    }
 }
 
-fn print_word(out: &mut Output, label: &[u8], page: &[u8]) {
-    let word = pages::word(page) as u64;
-    prints::text(out, label);
-    prints::filled(
-        out,
-        b"@: Valid %, Active %, Dead %, Spare %\n",
-        &[
-            word,
-            word % 256,
-            word / 256 % 256,
-            word / 65536 % 256,
-            word / 16777216 % 256,
-        ],
-    );
-}
-
-// Prints of pages of which none is live whether both are erased.
-fn print_none(out: &mut Output, erased: bool) {
-    if erased {
-        prints::text(out, b", a read is answered 5\nboth pages are erased\n");
-    } else {
-        prints::text(
+impl Dump<'_> {
+    // Prints where the pages come from, and their words.
+    fn print_words(&self, out: &mut Output) -> fmt::Result {
+        let size = image_of(self.left).len();
+        writeln!(
             out,
-            b", a read is answered 5\nthe pages are not both erased\n",
-        );
-    }
-}
-
-// Ends the line of pages of which one is live, and prints what the other holds.
-fn print_other(out: &mut Output, side: Side, page: &[u8]) {
-    prints::text(out, b"\nthe other page, ");
-    views::side(out, side);
-    prints::item(
-        out,
-        b", is erased\n|, holds a save not yet decided\n|, holds no settings: its image is all FF\n|, holds the settings before\n",
-        held_by(page),
-    );
-}
-
-fn print_line(out: &mut Output, walk: Walk, live: Live, left: &[u8], right: &[u8]) {
-    let start = walk.start;
-    prints::filled(out, b"line #: ", &[start.line() as u64]);
-    views::live(out, live);
-    match live {
-        Live::Nowhere => print_none(out, walk.erased),
-        Live::On(side) => match side {
-            Side::Left => print_other(out, Side::Right, right),
-            Side::Right => print_other(out, Side::Left, left),
-        },
-    }
-}
-
-fn print_note(out: &mut Output, applies: bool, note: &[u8]) {
-    if applies {
-        prints::text(out, note);
-    }
-}
-
-fn print_swapped(out: &mut Output, line: u8) {
-    if 0 < line {
-        prints::filled(
+            "{}\nP = {}: an image of {size} bytes from page offset 4 on, {} cells",
+            self.source,
+            self.left.len(),
+            size / 2
+        )?;
+        writeln!(
             out,
-            b"note: with LEFT and RIGHT changed over this is line #\n",
-            &[line as u64],
-        );
+            "LEFT  word {}\nRIGHT word {}",
+            ManagementWord(pages::word(self.left)),
+            ManagementWord(pages::word(self.right))
+        )
     }
-}
 
-fn print_notes(out: &mut Output, notes: Notes) {
-    print_note(out, notes.one, b"note: LEFT and RIGHT are one file\n");
-    print_note(
-        out,
-        notes.shared,
-        b"note: LEFT and RIGHT share bytes of the file\n",
-    );
-    print_note(
-        out,
-        notes.same,
-        b"note: LEFT and RIGHT hold the same bytes, are they one file?\n",
-    );
-    print_swapped(out, notes.swapped);
-}
+    // Prints the line of the pages, and what the page holds that isn't live.
+    fn print_line(&self, out: &mut Output) -> fmt::Result {
+        write!(out, "line {}: ", self.save.start.line())?;
+        match self.live() {
+            Some(side) => {
+                let other = side.other();
+                writeln!(
+                    out,
+                    "{side} is live\nthe other page, {other}, {}",
+                    Held::by(self.page(other))
+                )
+            }
+            None => writeln!(
+                out,
+                "no page is live, a read is answered 5\n{}",
+                if self.save.erased {
+                    "both pages are erased"
+                } else {
+                    "the pages are not both erased"
+                }
+            ),
+        }
+    }
 
-// ---- the steps of a save
-fn print_step(out: &mut Output, entry: Entry, place: u32) {
-    let step = entry.step;
-    prints::filled(out, b"  step #: ", &[place as u64 + 1]);
-    views::step(out, step);
-    views::deciding_store(out, entry.commits);
-    prints::text(out, b"\n");
-}
+    fn print_notes(&self, out: &mut Output) -> fmt::Result {
+        if let Some(alike) = self.alike() {
+            writeln!(out, "note: LEFT and RIGHT {alike}")?;
+        }
+        if let Some(line) = self.swapped_line() {
+            writeln!(
+                out,
+                "note: with LEFT and RIGHT changed over this is line {line}"
+            )?;
+        }
+        Ok(())
+    }
 
-// Prints the steps of an image's cells, the first of them at a place.
-fn print_cells(out: &mut Output, side: Side, place: u32, cells: u32) {
-    prints::filled(
-        out,
-        b"  steps # to #: program the image cells of ",
-        &[place as u64 + 1, place as u64 + cells as u64],
-    );
-    views::side(out, side);
-    prints::text(out, b"\n");
-}
+    // Prints the step at a place of the save; the image cells at their first place only.
+    fn print_step(&self, out: &mut Output, place: u32) -> fmt::Result {
+        let step = u64::from(place) + 1;
+        match views::spot(self.save, place) {
+            Some(Spot::Fixed(entry)) => writeln!(out, "  step {step}: {}", InWords(entry)),
+            Some(
+                Spot::Cell(
+                    _,
+                    ImageCell {
+                        side,
+                        at: ImageOffset(0),
+                    },
+                ),
+            ) => {
+                let last = u64::from(place) + u64::from(plans::cell_count(self.save.page));
+                writeln!(
+                    out,
+                    "  steps {step} to {last}: program the image cells of {side}"
+                )
+            }
+            _ => Ok(()),
+        }
+    }
 
-// Prints what stands at a place; the image cells at their first place only.
-fn print_spot(out: &mut Output, spot: Spot, place: u32, cells: u32) {
-    match spot {
-        Spot::Fixed(entry) => print_step(out, entry, place),
-        Spot::Cell(_, side, at) => {
-            if at.0 == 0 {
-                print_cells(out, side, place, cells);
+    fn print_steps(&self, out: &mut Output) -> fmt::Result {
+        let total = self.save.total();
+        writeln!(out, "a save from here takes {total} steps:")?;
+        for place in 0..total {
+            self.print_step(out, place)?;
+        }
+        Ok(())
+    }
+
+    fn print_image(&self, out: &mut Output, side: Side, note: &str) -> fmt::Result {
+        let rows = Rows {
+            image: image_of(self.page(side)),
+            before: None,
+        };
+        write!(out, "the image of {side}{note}:\n{rows}")
+    }
+
+    // Prints the image of the live page; where none is live, both, unless all is erased.
+    fn print_images(&self, out: &mut Output) -> fmt::Result {
+        match self.live() {
+            Some(side) => self.print_image(out, side, ""),
+            None if self.save.erased => Ok(()),
+            None => {
+                self.print_image(out, Side::Left, ", which is not live")?;
+                self.print_image(out, Side::Right, ", which is not live")
             }
         }
-        Spot::Beyond => {}
     }
-}
 
-fn print_steps(out: &mut Output, walk: Walk) {
-    let total = walk.total();
-    prints::filled(out, b"a save from here takes # steps:\n", &[total as u64]);
-    for place in 0..total {
-        print_spot(
-            out,
-            views::spot(walk, place),
-            place,
-            plans::cell_count(walk.page),
-        );
+    fn print(&self, out: &mut Output) -> fmt::Result {
+        self.print_words(out)?;
+        self.print_line(out)?;
+        self.print_notes(out)?;
+        self.print_steps(out)?;
+        self.print_images(out)?;
+        writeln!(out, "ok: shown")
     }
-}
-
-// ---- the images and the whole
-fn print_image(out: &mut Output, side: Side, page: &[u8], end: &[u8]) {
-    prints::text(out, b"the image of ");
-    views::side(out, side);
-    prints::text(out, end);
-    views::image(out, image_of(page));
-}
-
-// Prints the image of the live page; where none is live, both, unless all is erased.
-fn print_images(out: &mut Output, walk: Walk, live: Live, left: &[u8], right: &[u8]) {
-    match live {
-        Live::Nowhere => {
-            if !walk.erased {
-                print_image(out, Side::Left, left, b", which is not live:\n");
-                print_image(out, Side::Right, right, b", which is not live:\n");
-            }
-        }
-        Live::On(side) => match side {
-            Side::Left => print_image(out, side, left, b":\n"),
-            Side::Right => print_image(out, side, right, b":\n"),
-        },
-    }
-}
-
-// Prints where the pages come from, and their words.
-fn print_words(out: &mut Output, source: Source, left: &[u8], right: &[u8]) {
-    loads::heading(out, source, left.len());
-    print_sizes(out, image_of(left));
-    print_word(out, b"LEFT  word ", left);
-    print_word(out, b"RIGHT word ", right);
-}
-
-fn print_pages(out: &mut Output, source: Source, walk: Walk, left: &[u8], right: &[u8]) {
-    let live = table::status_of(left, right).live;
-    print_words(out, source, left, right);
-    print_line(out, walk, live, left, right);
-    let notes = notes_of(out.runtime(), source, left, right);
-    print_notes(out, notes);
-    print_steps(out, walk);
-    print_images(out, walk, live, left, right);
-    prints::text(out, b"ok: shown\n");
 }
 
 // ---- as JSON
-fn json_bool(out: &mut Output, value: bool) {
-    if value {
-        prints::text(out, b"true");
-    } else {
-        prints::text(out, b"false");
-    }
-}
+// What writes the text of a string: with a backslash before a quote and a backslash.
+#[derive(Drop)]
+struct InString<W>(W);
 
-// Prints a printable byte within a string, with a backslash before a quote and a backslash.
-fn json_byte(out: &mut Output, b: u8) {
-    match b {
-        b'"' | b'\\' => prints::text(out, &[b'\\', b]),
-        _ => prints::text(out, &[b]),
-    }
-}
-
-fn json_text(out: &mut Output, text: &[u8]) {
-    for i in 0..text.len() {
-        json_byte(out, text[i]);
-    }
-}
-
-fn json_gathered(out: &mut Output, space: &Output) {
-    json_text(out, prints::gathered(space));
-}
-
-fn json_name(out: &mut Output, name: arguments::Name) {
-    let mut space = Output::new(out.runtime());
-    arguments::print_name(&mut space, name);
-    json_gathered(out, &space);
-}
-
-fn json_hex(out: &mut Output, b: u8) {
-    prints::hex(out, b as u64, 2);
-}
-
-fn json_bytes(out: &mut Output, bytes: &[u8]) {
-    for i in 0..bytes.len() {
-        json_hex(out, bytes[i]);
-    }
-}
-
-fn json_file(out: &mut Output, name: arguments::Name, at: u32) {
-    prints::text(out, b"{\"file\": \"");
-    json_name(out, name);
-    prints::filled(out, b"\", \"from\": #", &[at as u64]);
-}
-
-fn json_word(out: &mut Output, page: &[u8]) {
-    prints::filled(
-        out,
-        b", \"word\": \"@\", \"erased\": ",
-        &[pages::word(page) as u64],
-    );
-    json_bool(out, flash::erased(page));
-}
-
-fn json_page(out: &mut Output, name: arguments::Name, at: u32, page: &[u8]) {
-    json_file(out, name, at);
-    json_word(out, page);
-    prints::text(out, b", \"image\": \"");
-    json_bytes(out, image_of(page));
-    prints::text(out, b"\"}");
-}
-
-fn json_held(out: &mut Output, page: &[u8]) {
-    prints::item(
-        out,
-        b"\"erased\"|\"undecided\"|\"no settings\"|\"before\"",
-        held_by(page),
-    );
-}
-
-fn json_live(out: &mut Output, live: Live, left: &[u8], right: &[u8]) {
-    match live {
-        Live::Nowhere => prints::text(out, b"null, \"other\": null"),
-        Live::On(side) => match side {
-            Side::Left => {
-                prints::text(out, b"\"LEFT\", \"other\": ");
-                json_held(out, right);
+impl<W: fmt::Write> fmt::Write for InString<W> {
+    fn write_str(&mut self, s: &str) -> fmt::Result {
+        for c in s.chars() {
+            if matches!(c, '"' | '\\') {
+                self.0.write_char('\\')?;
             }
-            Side::Right => {
-                prints::text(out, b"\"RIGHT\", \"other\": ");
-                json_held(out, left);
-            }
-        },
+            self.0.write_char(c)?;
+        }
+        Ok(())
     }
 }
 
-// Prints a note where it applies, and says whether one was printed, or one before it.
-fn json_note(out: &mut Output, applies: bool, note: &[u8], before: bool) -> bool {
-    if !applies {
-        return before;
+// A string.
+#[derive(Clone, Copy)]
+struct Quoted<T>(T);
+
+impl<T: fmt::Display> fmt::Display for Quoted<T> {
+    fn fmt<W: fmt::Write>(&self, f: &mut fmt::Formatter<W>) -> fmt::Result {
+        write!(f, "\"")?;
+        write!(InString(&mut *f), "{}", self.0)?;
+        write!(f, "\"")
     }
-    print_note(out, before, b", ");
-    prints::text(out, note);
-    true
 }
 
-fn json_notes(out: &mut Output, notes: Notes) {
-    let one = json_note(out, notes.one, b"\"one file\"", false);
-    let shared = json_note(out, notes.shared, b"\"shared bytes\"", one);
-    let same = json_note(out, notes.same, b"\"same bytes\"", shared);
-    json_note(out, 0 < notes.swapped, b"\"changed over\"", same);
-}
+// A string, or null.
+#[derive(Clone, Copy)]
+struct OrNull<T>(Option<T>);
 
-// Prints the beginning of the object.
-fn json_start(out: &mut Output, ok: bool) {
-    prints::text(out, b"{\"ok\": ");
-    json_bool(out, ok);
-    prints::text(out, b", \"version\": \"");
-    prints::version(out);
-    prints::text(out, b"\", ");
-}
-
-fn json_dumps(out: &mut Output, source: Source, page: u32, left: &[u8], right: &[u8]) {
-    let left_name = source.left;
-    let right_name = source.right;
-    prints::filled(out, b"\"page\": #, \"left\": ", &[page as u64]);
-    json_page(out, left_name, source.left_at, left);
-    prints::text(out, b", \"right\": ");
-    json_page(out, right_name, source.right_at, right);
-}
-
-fn json_line(out: &mut Output, walk: Walk, left: &[u8], right: &[u8]) {
-    let live = table::status_of(left, right).live;
-    let start = walk.start;
-    prints::filled(out, b", \"line\": #, \"live\": ", &[start.line() as u64]);
-    json_live(out, live, left, right);
-    prints::filled(
-        out,
-        b", \"steps\": #, \"deciding\": #, \"notes\": [",
-        &[walk.total() as u64, views::deciding(walk) as u64],
-    );
-}
-
-fn json_pages(out: &mut Output, source: Source, walk: Walk, left: &[u8], right: &[u8]) {
-    json_start(out, true);
-    json_dumps(out, source, walk.page, left, right);
-    json_line(out, walk, left, right);
-    let notes = notes_of(out.runtime(), source, left, right);
-    json_notes(out, notes);
-    prints::text(out, b"]}\n");
-}
-
-// What a line says that a failed run prints, without `failed: ` and the line's end.
-fn reason(line: &[u8]) -> &[u8] {
-    let end = line.len();
-    if end < 9 {
-        return line;
+impl<T: fmt::Display> fmt::Display for OrNull<T> {
+    fn fmt<W: fmt::Write>(&self, f: &mut fmt::Formatter<W>) -> fmt::Result {
+        match &self.0 {
+            Some(value) => write!(f, "{}", Quoted(value)),
+            None => write!(f, "null"),
+        }
     }
-    &line[8..end - 1]
 }
 
-// Prints the line of a failed run as an object.
-fn json_failed(out: &mut Output, line: &[u8]) {
-    json_start(out, false);
-    prints::text(out, b"\"failed\": \"");
-    json_text(out, reason(line));
-    prints::text(out, b"\"}\n");
+// Bytes, two digits each.
+#[derive(Clone, Copy)]
+struct Hex<'a>(&'a [u8]);
+
+impl fmt::Display for Hex<'_> {
+    fn fmt<W: fmt::Write>(&self, f: &mut fmt::Formatter<W>) -> fmt::Result {
+        for byte in self.0 {
+            write!(f, "{byte:02X}")?;
+        }
+        Ok(())
+    }
+}
+
+// A page, and where it comes from.
+#[derive(Clone, Copy)]
+struct JsonPage<'a> {
+    origin: Origin,
+    page: &'a [u8],
+}
+
+impl fmt::Display for JsonPage<'_> {
+    fn fmt<W: fmt::Write>(&self, f: &mut fmt::Formatter<W>) -> fmt::Result {
+        let JsonPage { origin, page } = *self;
+        write!(
+            f,
+            "{{\"file\": {}, \"from\": {}, \"word\": \"{:08X}\", \"erased\": {}, \"image\": \"{}\"}}",
+            Quoted(origin.name),
+            origin.from.unwrap_or(0),
+            pages::word(page),
+            flash::erased(page),
+            Hex(image_of(page))
+        )
+    }
+}
+
+impl Dump<'_> {
+    fn print_json_line(&self, out: &mut Output) -> fmt::Result {
+        let live = self.live();
+        let held = live.map(|side| Held::by(self.page(side.other())).key());
+        write!(
+            out,
+            "\"line\": {}, \"live\": {}, \"other\": {}, \"steps\": {}, \"deciding\": {}",
+            self.save.start.line(),
+            OrNull(live),
+            OrNull(held),
+            self.save.total(),
+            views::deciding(self.save).unwrap_or(0)
+        )
+    }
+
+    fn print_json_notes(&self, out: &mut Output) -> fmt::Result {
+        let alike = self.alike().map(|alike| alike.key());
+        let swapped = self.swapped_line().map(|_| "changed over");
+        for (i, note) in [alike, swapped].into_iter().flatten().enumerate() {
+            let between = if i == 0 { "" } else { ", " };
+            write!(out, "{between}{}", Quoted(note))?;
+        }
+        Ok(())
+    }
+
+    fn print_json(&self, out: &mut Output) -> fmt::Result {
+        let left = JsonPage {
+            origin: self.source.left(),
+            page: self.left,
+        };
+        let right = JsonPage {
+            origin: self.source.right(),
+            page: self.right,
+        };
+        write!(
+            out,
+            "{{\"ok\": true, \"version\": \"{VERSION}\", \"page\": {}, \"left\": {left}, \"right\": {right}, ",
+            self.save.page
+        )?;
+        self.print_json_line(out)?;
+        write!(out, ", \"notes\": [")?;
+        self.print_json_notes(out)?;
+        writeln!(out, "]}}")
+    }
 }
 
 // ---- the run
-// Shows two pages whose lengths are right, so a save of nothing isn't refused.
-fn show(out: &mut Output, source: Source, left: &[u8], right: &[u8], json: bool) {
-    match Walk::save(left, right, image_start(), b"") {
-        Begun::Refused(_) => {}
-        Begun::On(walk) => {
-            if json {
-                json_pages(out, source, walk, left, right);
-            } else {
-                print_pages(out, source, walk, left, right);
-            }
+// The form that a run prints in.
+#[derive(Clone, Copy)]
+enum Form {
+    Text,
+    Json,
+}
+
+impl Form {
+    // Where the arguments begin that say what is shown: behind its option, if it has one.
+    fn first_argument(self) -> usize
+        ensures { result ≤ 2 }
+    {
+        match self {
+            Form::Text => 1,
+            Form::Json => 2,
+        }
+    }
+
+    fn print(self, out: &mut Output, dump: Dump) -> fmt::Result {
+        match self {
+            Form::Text => dump.print(out),
+            Form::Json => dump.print_json(out),
+        }
+    }
+
+    // Prints why nothing is shown.
+    fn print_error(self, out: &mut Output, error: Error) -> fmt::Result {
+        match self {
+            Form::Text => writeln!(out, "failed: {error}"),
+            Form::Json => writeln!(
+                out,
+                "{{\"ok\": false, \"version\": \"{VERSION}\", \"failed\": {}}}",
+                Quoted(error)
+            ),
         }
     }
 }
 
-fn show_source(out: &mut Output, source: Source, json: bool) {
+// Where the pages come from that the arguments name.
+fn source_of(rt: HostRuntime, form: Form) -> Result<Source, Error> {
+    let at = form.first_argument();
+    let first = Argument { rt, at };
+    match (first.word(), arguments::count(rt).saturating_sub(at)) {
+        (Word::Plain, 2) => Ok(Source::files(rt, at, None)?),
+        (Word::One, 5) => Ok(Source::parts(rt, at + 1, None)?),
+        (Word::Plain | Word::One, _) => Err(Error::Usage),
+        _ => Err(arguments::Error::UnknownOption(first).into()),
+    }
+}
+
+// Shows the pages that the arguments name. Their lengths are right, so a save of nothing isn't refused.
+// What is printed always goes through.
+fn show(out: &mut Output, form: Form) -> Result<(), Error> {
+    let rt = out.runtime();
+    let source = source_of(rt, form)?;
     let mut left = loads::page_buffer();
     let mut right = loads::page_buffer();
-    match loads::load_pages(out, source, &mut left, &mut right) {
-        Input::Wrong => {}
-        Input::Bytes(page) => show(out, source, first(&left, page), first(&right, page), json),
+    let (left, right) = source.load(rt, &mut left, &mut right)?;
+    if let Ok(save) = Walk::save(left, right, image_start(), b"") {
+        let _ = form.print(
+            out,
+            Dump {
+                source,
+                left,
+                right,
+                save,
+            },
+        );
+    }
+    Ok(())
+}
+
+// Shows the pages, or prints why it doesn't.
+fn run_form(out: &mut Output, form: Form) -> fmt::Result {
+    match show(out, form) {
+        Ok(()) => Ok(()),
+        Err(error) => form.print_error(out, error),
     }
 }
 
-// Shows the pages that the arguments from one on name.
-fn show_from(out: &mut Output, one: bool, at: usize, json: bool) {
-    if !arguments::names_right(out, one, at, 0) {
-        return;
-    }
-    match loads::source_from(out, one, at) {
-        Sourced::Wrong => {}
-        Sourced::From(source) => show_source(out, source, json),
-    }
-}
-
-fn usage(out: &mut Output) {
-    prints::text(
+fn help(out: &mut Output) -> fmt::Result {
+    writeln!(
         out,
-        b"failed: usage: show [--json] LEFT RIGHT, or show [--json] --one FILE LEFT-AT RIGHT-AT LENGTH\n",
-    );
-}
-
-fn help(out: &mut Output) {
-    prints::text(
+        "show [--json] LEFT RIGHT\nshow [--json] --one FILE LEFT-AT RIGHT-AT LENGTH\n  what two dumps of pages hold; --json: as one JSON object"
+    )?;
+    writeln!(
         out,
-        b"show [--json] LEFT RIGHT\nshow [--json] --one FILE LEFT-AT RIGHT-AT LENGTH\n  what two dumps of pages hold; --json: as one JSON object\n",
-    );
-    prints::text(
-        out,
-        b"  --one: both pages are in FILE, LENGTH bytes each, from the bytes LEFT-AT and RIGHT-AT on\n  a file - is standard input\nok: help\n",
-    );
+        "  --one: both pages are in FILE, LENGTH bytes each, from the bytes LEFT-AT and RIGHT-AT on\n  a file - is standard input\nok: help"
+    )
 }
 
-// Runs with the arguments from one on, of so many.
-fn run_from(out: &mut Output, at: usize, count: usize, json: bool)
-    requires { at ≤ 2 }
-{
-    match arguments::option(out.runtime(), at) {
-        Word::Plain => {
-            if count == at + 2 {
-                show_from(out, false, at, json);
-            } else {
-                usage(out);
-            }
-        }
-        Word::One => {
-            if count == at + 5 {
-                show_from(out, true, at + 1, json);
-            } else {
-                usage(out);
-            }
-        }
-        _ => arguments::fail_option(out, at),
-    }
-}
-
-fn is_object(text: &[u8]) -> bool {
-    if text.len() == 0 {
-        return false;
-    }
-    text[0] == b'{'
-}
-
-// Prints what a run printed, where it isn't an object as one.
-fn print_object(out: &mut Output, space: &Output) {
-    let text = prints::gathered(space);
-    if is_object(text) {
-        prints::text(out, text);
-    } else {
-        json_failed(out, text);
-    }
-}
-
-// Runs with the arguments from the second on, and prints an object also where it fails.
-fn run_json(out: &mut Output, count: usize) {
-    let mut space = Output::new(out.runtime());
-    run_from(&mut space, 2, count, true);
-    print_object(out, &space);
-}
-
-fn run(out: &mut Output) {
-    let count = arguments::count(out.runtime());
-    match arguments::option(out.runtime(), 1) {
+fn run(out: &mut Output) -> fmt::Result {
+    let rt = out.runtime();
+    match (Argument { rt, at: 1 }).word() {
         Word::Help => help(out),
         Word::Version => arguments::print_version(out),
-        Word::Crowded => usage(out),
-        Word::Json => run_json(out, count),
-        _ => run_from(out, 1, count, false),
+        Word::Crowded => Form::Text.print_error(out, Error::Usage),
+        Word::Json => run_form(out, Form::Json),
+        _ => run_form(out, Form::Text),
     }
 }
 
 fn main(rt: HostRuntime) {
     let mut out = Output::new(rt);
-    run(&mut out);
-    prints::flush(&mut out);
+    let _ = run(&mut out);
+    out.flush();
 }

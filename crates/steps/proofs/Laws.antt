@@ -118,12 +118,12 @@ no_cell i v =
 pub no_image_lem : (l : List ℕ) (at : ImageOffset) (v : ℕ) → length l < 4
     → ◌≡◌ {A = Outcome} (record { number = 6; bytes = l }) (imaged l at v)
 no_image_lem l at v h =
-    let none : drop 4 l ≡ [] = drop_of_length-le l {i = 4} (omega arith) in
+    let None : drop 4 l ≡ [] = drop_of_length-le l {i = 4} (omega arith) in
     let whole : l ≡ take 4 l ++ [] = sym (append-nil (take 4 l) ∙ take_all 4 l (omega arith)) in
     ◌∙◌ {b = after (take 4 l) (record { number = 6; bytes = [] })}
     (ap (λ (x : List ℕ). record { number = 6; bytes = x }) whole)
     (ap (λ (o : Outcome). after (take 4 l) o)
-    (sym (ap (λ (x : List ℕ). programmed x at.0 v) none ∙ no_cell at.0 v)))
+    (sym (ap (λ (x : List ℕ). programmed x at.0 v) None ∙ no_cell at.0 v)))
 
 -- a step on a cell of the image is that step on the page, 4 bytes on
 pub imaged_at : (l : List ℕ) (at : ImageOffset) (v : ℕ) → 4 ≤ length l → imaged l at v ≡ programmed l (4 + at.0) v

@@ -9,7 +9,7 @@ ghost use Rattle.flash.specs.Flash.{Outcome, number_in, programmed};
 ghost use Rattle.steps.specs.declared.Step.TheVariants.{Image};
 ghost use Rattle.steps.specs.Steps.{Tried, marked, imaged, tried};
 
-use flash::Programmed;
+use flash::StepError;
 use pages::{ImageOffset, PageOffset, Side};
 
 // A flash step and the side whose page it is made on. A mark is named by its page offset, an image
@@ -22,7 +22,7 @@ pub enum Step {
 }
 
 // Programs a cell of the image. It is lent the image alone and never sees a management byte.
-fn program_image(image: &mut [u8], at: ImageOffset, value: u16) -> Programmed
+fn program_image(image: &mut [u8], at: ImageOffset, value: u16) -> Result<(), StepError>
     ensures { ◌≡◌ {A = Outcome}
         (record { number = number_in result; bytes = image.new })
         (programmed image.old at.0 value) }
@@ -30,19 +30,19 @@ fn program_image(image: &mut [u8], at: ImageOffset, value: u16) -> Programmed
     flash::program(image, at.0 as usize, value)
 }
 
-fn program_cell(page: &mut [u8], at: ImageOffset, value: u16) -> Programmed
+fn program_cell(page: &mut [u8], at: ImageOffset, value: u16) -> Result<(), StepError>
     ensures { ◌≡◌ {A = Outcome}
         (record { number = number_in result; bytes = page.new })
         (imaged page.old at value) }
 {
     let start = pages::MANAGEMENT_SIZE as usize;
     if page.len() < start {
-        return Programmed::Unfit;
+        return Err(StepError::Unfit);
     }
     program_image(&mut page[start..], at, value)
 }
 
-fn program_mark(page: &mut [u8], at: PageOffset, value: u16) -> Programmed
+fn program_mark(page: &mut [u8], at: PageOffset, value: u16) -> Result<(), StepError>
     ensures { ◌≡◌ {A = Outcome}
         (record { number = number_in result; bytes = page.new })
         (marked page.old at value) }
@@ -51,13 +51,14 @@ fn program_mark(page: &mut [u8], at: PageOffset, value: u16) -> Programmed
 }
 
 // Programs an image cell of the page of a side: the step that a save makes most, apart from the others.
+// Both arms stand, here and in `make`: of two pages lent for writing `Side::pick` can't hand on one.
 pub fn make_image(
     side: Side,
     at: ImageOffset,
     value: u16,
     left: &mut [u8],
     right: &mut [u8],
-) -> Programmed
+) -> Result<(), StepError>
     ensures { ◌≡◌ {A = Tried}
         (record { number = number_in result; left = left.new; right = right.new })
         (tried (Image side at value) left.old right.old) }
@@ -69,7 +70,7 @@ pub fn make_image(
 }
 
 // Makes a step on the pages, or leaves both as they were where it doesn't fit.
-pub fn make(step: Step, left: &mut [u8], right: &mut [u8]) -> Programmed
+pub fn make(step: Step, left: &mut [u8], right: &mut [u8]) -> Result<(), StepError>
     ensures { ◌≡◌ {A = Tried}
         (record { number = number_in result; left = left.new; right = right.new })
         (tried step left.old right.old) }
@@ -83,11 +84,11 @@ pub fn make(step: Step, left: &mut [u8], right: &mut [u8]) -> Programmed
         Step::Erase(side) => match side {
             Side::Left => {
                 flash::erase(left);
-                Programmed::Made
+                Ok(())
             }
             Side::Right => {
                 flash::erase(right);
-                Programmed::Made
+                Ok(())
             }
         },
     }

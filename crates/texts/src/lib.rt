@@ -6,13 +6,13 @@
 // any text, place and number may be asked about.
 #![tactic(auto)]
 
-ghost use Rattle.std.specs.Prelude.{◌+◌, ◌-◌, ◌*◌, ◌≤◌, cond, ◌≡◌, ltb, length};
+ghost use Rattle.std.specs.Prelude.{◌+◌, ◌-◌, ◌*◌, ◌≤◌, cond, ◌≡◌, ltb, length, drop, position, true, false};
 ghost use Rattle.texts.specs.Texts.{
   before_first,
   is,
   is_blank,
   ending,
-  used,
+  trimmed,
   without_comment,
   line_at,
   next_line,
@@ -21,69 +21,65 @@ ghost use Rattle.texts.specs.Texts.{
 };
 
 // ---- lines
-// How many bytes stand before the first that is `byte`, or in all where none is.
-fn before(text: &[u8], byte: u8) -> usize
-    ensures value { result ≡ before_first (is byte) text.now }
-    ensures upper_bound { result ≤ length text.now }
+// What is left of a text at a place.
+fn rest_at(text: &[u8], place: usize) -> &[u8]
+    ensures { result.now ≡ drop place text.now }
 {
-    for i in 0..text.len() {
-        if text[i] == byte {
-            return i;
-        }
-    }
-    text.len()
+    text.get(place..).unwrap_or(&[])
 }
 
+// Where the first byte that is `byte` is.
+fn find(text: &[u8], byte: u8) -> Option<usize>
+    ensures { result ≡ position (is byte) text.now }
+{
+    text.iter().position(|next| *next == byte)
+}
+
+#[tactic(auto, using(std::proofs::lemmas::Bool::Decides::nat_tests), unfolding(crate::specs::Texts::is_blank))]
 fn is_blank(byte: u8) -> bool
     ensures { result ≡ is_blank byte }
 {
-    if byte == b' ' { true } else { byte == b'\t' }
+    matches!(byte, b' ' | b'\t')
 }
 
-// How many bytes at the start of a line are blanks and tabs, or are none of them.
-fn run(line: &[u8], blank: bool) -> usize
-    ensures value { result ≡ before_first (ending blank) line.now }
+// How many bytes at the start of a line are blanks and tabs.
+fn blanks(line: &[u8]) -> usize
+    ensures value { result ≡ before_first (ending true) line.now }
     ensures upper_bound { result ≤ length line.now }
 {
-    for i in 0..line.len() {
-        if is_blank(line[i]) != blank {
-            return i;
-        }
-    }
-    line.len()
+    let first = line.iter().position(|byte| !is_blank(*byte));
+    first.unwrap_or(line.len())
 }
 
-// How long a line is up to its last byte that is no blank and no tab.
-fn trimmed(line: &[u8]) -> usize
-    ensures value { result ≡ used line.now }
+// How many bytes at the start of a line are no blanks and no tabs.
+fn word_size(line: &[u8]) -> usize
+    ensures value { result ≡ before_first (ending false) line.now }
     ensures upper_bound { result ≤ length line.now }
 {
-    let mut end: usize = 0;
-    for i in 0..line.len() {
-        if !is_blank(line[i]) {
-            end = i + 1;
-        }
+    let blank = line.iter().position(|byte| is_blank(*byte));
+    blank.unwrap_or(line.len())
+}
+
+// A line up to its last byte that is no blank and no tab.
+fn trimmed(line: &[u8]) -> &[u8]
+    ensures { result.now ≡ trimmed line.now }
+{
+    let mut kept = line;
+    while let [front @ .., last] = kept
+        && is_blank(*last)
+    {
+        kept = front;
     }
-    end
+    kept
 }
 
 // A line up to its comment, and with no carriage return at its end.
 fn without_comment(line: &[u8]) -> &[u8]
     ensures { result.now ≡ without_comment line.now }
 {
-    let size = line.len();
-    let end = before(line, b'#');
-    if end < size {
-        return &line[0..end];
-    }
-    if size == 0 {
-        return line;
-    }
-    let last = size - 1;
-    if line[last] == b'\r' {
-        &line[0..last]
-    } else {
-        line
+    match find(line, b'#') {
+        Some(end) => &line[..end],
+        None => line.strip_suffix(b"\r").unwrap_or(line),
     }
 }
 
@@ -91,17 +87,10 @@ fn without_comment(line: &[u8]) -> &[u8]
 pub fn line_at(text: &[u8], from: usize) -> &[u8]
     ensures { result.now ≡ line_at text.now from }
 {
-    let size = text.len();
-    if size <= from {
-        return &text[0..0];
-    }
-    let rest = &text[from..size];
-    let end = before(rest, b'\n');
-    let line = without_comment(&rest[0..end]);
-    let used = trimmed(line);
-    let words = &line[0..used];
-    let start = run(words, true);
-    &words[start..]
+    let rest = rest_at(text, from);
+    let end = find(rest, b'\n').unwrap_or(rest.len());
+    let words = trimmed(without_comment(&rest[..end]));
+    &words[blanks(words)..]
 }
 
 // Where the line after the one that begins at a place begins, within the text: less of it is left
@@ -111,12 +100,11 @@ pub fn next_line(text: &[u8], from: usize) -> usize
     ensures upper_bound { (result ≤ length text.now)
         × (length text.now - result ≤ length text.now - (from + 1)) }
 {
-    let size = text.len();
-    if size <= from {
-        return size;
+    let rest = rest_at(text, from);
+    match find(rest, b'\n') {
+        Some(end) => from + end + 1,
+        None => text.len(),
     }
-    let end = from + before(&text[from..size], b'\n');
-    if end < size { end + 1 } else { end }
 }
 
 // ---- words
@@ -125,19 +113,17 @@ fn stride(line: &[u8]) -> usize
     ensures value { result ≡ stride_of line.now }
     ensures upper_bound { result ≤ length line.now }
 {
-    let end = run(line, false);
-    end + run(&line[end..], true)
+    let end = word_size(line);
+    end + blanks(&line[end..])
 }
 
 // The word of a number, of a line that begins with its first.
 pub fn word(line: &[u8], number: usize) -> &[u8]
     ensures { result.now ≡ word_at number line.now }
 {
-    let mut start: usize = 0;
+    let mut rest = line;
     for _ in 0..number {
-        start += stride(&line[start..]);
+        rest = &rest[stride(rest)..];
     }
-    let rest = &line[start..];
-    let end = run(rest, false);
-    &rest[0..end]
+    &rest[..word_size(rest)]
 }

@@ -2,91 +2,61 @@
 // are in docs/FORMATS.md.
 //
 // What is printed is printed from the answers and from the pages as they are then; that they are the
-// model's is in specs/Timelines.antt and in the crate sessions.
+// model's is in specs/Timelines.antt and in the crate sessions. It goes to an `Output`, which never
+// fails, so its results are passed over.
 #![tactic(auto)]
 
 ghost use Rattle.std.specs.Prelude.{◌≡◌};
-ghost use Rattle.timelines.specs.Timelines.{walk_in, ends_with};
+ghost use Rattle.timelines.specs.Timelines.{ends_with};
 
-use answers::Report;
-use boards::Hand;
+use answers::{Report, Scene};
 use prints::Output;
 use sessions::Session;
+use walks::Walk;
 
 // ---- the script
-fn print_first<'a>(out: &mut Output, left: &'a [u8], right: &'a [u8]) {
-    prints::text(out, b"\nat first\n");
-    answers::show(out, left, right, b"");
-}
-
 // Makes the calls of a script whose lines are right on copies of the pages, and prints the pages at
 // first, each call with its answer, and how often a read showed what. With `all` every step has its
 // own lines. It begins with the end of the line of P. The walk that is in hand in the end is handed
 // back. Pages that differ in length, or are longer than any page, have no calls.
-pub fn run<'a>(out: &mut Output, text: &[u8], left: &'a [u8], right: &'a [u8], all: bool) -> Hand
-    ensures { walk_in result ≡ ends_with text.now left.now right.now }
+pub fn run(out: &mut Output, text: &[u8], left: &[u8], right: &[u8], all: bool) -> Option<Walk>
+    ensures { result ≡ ends_with text.now left.now right.now }
 {
-    let mut session = Session::new();
     let page = left.len();
-    if pages::MAX_PAGE < page {
-        return Hand::Empty;
+    if pages::MAX_PAGE < page || right.len() != page {
+        return None;
     }
-    if right.len() != page {
-        return Hand::Empty;
-    }
-    let mut now_left = turns::blank();
-    let mut now_right = turns::blank();
-    let mut shown = turns::blank();
-    let mut old = turns::blank();
-    copies::copy(left, &mut now_left);
-    copies::copy(right, &mut now_right);
-    print_first(out, left, right);
+    let mut left_room = turns::blank();
+    let mut right_room = turns::blank();
+    let now_left = &mut left_room[..page];
+    let now_right = &mut right_room[..page];
+    copies::copy(left, now_left);
+    copies::copy(right, now_right);
+    let mut session = Session::new();
     let mut report = Report::new();
-    let mut on = session.is_on(text);
-    while on {
-        report = answers::before(
-            out,
-            report,
-            session,
+    let _ = report.start(out, Scene { text, left, right });
+    while session.is_on(text) {
+        let scene = Scene {
             text,
-            &now_left[0..page],
-            &now_right[0..page],
-            all,
-            &mut shown,
-        );
+            left: now_left,
+            right: now_right,
+        };
+        let _ = report.before(out, scene, session, all);
         let mut output = turns::blank();
-        let answered = sessions::next(
+        let answered = sessions::next(text, session, now_left, now_right, &mut output);
+        let scene = Scene {
             text,
-            session,
-            &mut now_left[0..page],
-            &mut now_right[0..page],
-            &mut output,
-        );
-        report = answers::after(
-            out,
-            report,
-            answered,
-            session,
-            text,
-            &now_left[0..page],
-            &now_right[0..page],
-            &shown,
-            &mut old,
-            &output,
-        );
-        let next = answered.session;
-        session = next;
-        on = session.is_on(text);
+            left: now_left,
+            right: now_right,
+        };
+        let _ = report.after(out, scene, session, answered, &output);
+        session = answered.session;
     }
-    answers::end(
-        out,
-        report,
-        session,
+    let scene = Scene {
         text,
-        &now_left[0..page],
-        &now_right[0..page],
-        &shown,
-    );
-    let hand = session.hand;
-    hand
+        left: now_left,
+        right: now_right,
+    };
+    let _ = report.end(out, scene, session);
+    session.hand
 }

@@ -1,6 +1,7 @@
 -- Laws of an entry tried on the pages.
 -- In order: its line met or not; what a try leaves that isn't made; the image that a new one is made from.
 -- Not here: a flash step on two pages (the crate steps). Assumes nothing.
+use Rattle.std.specs.Prelude.{Option, Some, None}
 use Prim.Native.Nat.{ℕ, ◌<◌}
 use mathlib.Core.Path.{◌≡◌, refl, sym, ap, ◌∙◌}
 use mathlib.Core.Bool.{Bool, true, false, cond}
@@ -10,8 +11,6 @@ use lib.ListN.{length, drop_of_length-le}
 use borrow.Author.Tests.{ne_eqb}
 use Rattle.pages.specs.declared.Side.{Side}
 use Rattle.pages.specs.declared.Side.TheVariants.{Left, Right}
-use Rattle.pages.specs.declared.Live.{Live}
-use Rattle.pages.specs.declared.Live.TheVariants.{Nowhere, On}
 use Rattle.pages.specs.declared.PageOffset.{PageOffset}
 use Rattle.pages.specs.declared.ImageOffset.{ImageOffset}
 use Rattle.pages.specs.Pages.{line_of, live_of, status_of}
@@ -60,20 +59,20 @@ pub no_image_lem : (page : List ℕ) → length page < 4 → [] ≡ image_of pag
 no_image_lem page h = sym (drop_of_length-le page {i = 4} (omega arith))
 
 -- where the pages are at the line of the image cells, the live side is the one that it is named by
-clean_live : (live : Live) → live_of (clean live) ≡ live
+clean_live : (live : Option Side) → live_of (clean live) ≡ live
 unfolding live_of
-clean_live Nowhere = refl
-clean_live (On Left) = refl
-clean_live (On Right) = refl
+clean_live None = refl
+clean_live (Some Left) = refl
+clean_live (Some Right) = refl
 
-pub clean_image : (live : Live) (l r : List ℕ) → meets (clean live) (status_of l r).state ≡ true
+pub clean_image : (live : Option Side) (l r : List ℕ) → meets (clean live) (status_of l r).state ≡ true
     → live_image l r ≡ image_on live l r
 unfolding live_image
 clean_image live l r e =
-    ap (λ (x : Live). image_on x l r)
+    ap (λ (x : Option Side). image_on x l r)
     (status_live l r ∙ ap live_of (meets_same (clean live) (status_of l r).state e) ∙ clean_live live)
 
-pub cell_tried : (live : Live) (s : Side) (at : ImageOffset) (o : PageOffset) (d l r old : List ℕ) (v : ℕ) (t : Tried)
+pub cell_tried : (live : Option Side) (s : Side) (at : ImageOffset) (o : PageOffset) (d l r old : List ℕ) (v : ℕ) (t : Tried)
     → meets (clean live) (status_of l r).state ≡ true → old ≡ or_blank 0 (image_on live l r) → v ≡ new_cell old o d at
     → t ≡ tried (Image s at v) l r → t ≡ attempt (cell_entry live s at o d l r) l r
 cell_tried live s at o d l r old v t m e f h =

@@ -1,9 +1,9 @@
 -- An entry of the list of steps, tried on the pages (document 01, "Numbers the board gives back").
 -- Not here: the list of steps (the crate plans); which entry a walk tries (walks). Laws: proofs/.
 -- Assumes nothing.
+use Rattle.std.specs.Prelude.{Option}
 use Rattle.std.specs.Prelude.{ℕ, cond, List}
 use Rattle.pages.specs.declared.Side.{Side}
-use Rattle.pages.specs.declared.Live.{Live}
 use Rattle.pages.specs.declared.PageOffset.{PageOffset}
 use Rattle.pages.specs.declared.ImageOffset.{ImageOffset}
 use Rattle.pages.specs.Pages.{status_of}
@@ -22,6 +22,6 @@ attempt x l r =
     (record { number = 6; left = l; right = r })
 
 -- the entry of an image cell, its number made from the image of a live side
-abbrev pub cell_entry : Live → Side → ImageOffset → PageOffset → List ℕ → List ℕ → List ℕ → Entry
+abbrev pub cell_entry : Option Side → Side → ImageOffset → PageOffset → List ℕ → List ℕ → List ℕ → Entry
 cell_entry live s at o d l r =
     entry (clean live) (Image s at (new_cell (or_blank 0 (image_on live l r)) o d at))

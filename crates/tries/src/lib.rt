@@ -12,45 +12,36 @@ ghost use Rattle.steps.specs.Steps.{Tried};
 ghost use Rattle.images.specs.Images.{image_on, or_blank};
 ghost use Rattle.tries.specs.Tries.{attempt, cell_entry};
 
-use flash::Programmed;
-use pages::{ImageOffset, Live, PageOffset, Side};
+use flash::StepError;
+use pages::{ImageOffset, PageOffset, Side};
 use plans::Entry;
 
 // An entry of the list, tried on the pages: its line first, then its flash step.
-pub fn try_entry(x: Entry, left: &mut [u8], right: &mut [u8]) -> Programmed
+pub fn try_entry(x: Entry, left: &mut [u8], right: &mut [u8]) -> Result<(), StepError>
     ensures { ◌≡◌ {A = Tried}
         (record { number = number_in result; left = left.new; right = right.new })
         (attempt x left.old right.old) }
 {
-    let state = x.state;
-    let step = x.step;
-    if lines::is_at(left, right, state) {
-        return steps::make(step, left, right);
+    if lines::is_at(left, right, x.state) {
+        return steps::make(x.step, left, right);
     }
-    Programmed::Unfit
+    Err(StepError::Unfit)
 }
 
 // The image of a page: all of it from byte 4 on.
 fn image_of(page: &[u8]) -> &[u8]
     ensures { result.now ≡ image_of page.now }
 {
-    let start = pages::MANAGEMENT_SIZE as usize;
-    if page.len() < start {
-        return &page[0..0];
-    }
-    &page[start..]
+    page.get(pages::MANAGEMENT_SIZE as usize..).unwrap_or(&[])
 }
 
 // The image that the new one is made from: nothing where no page is live.
-fn old_image<'a>(live: Live, left: &'a [u8], right: &'a [u8]) -> &'a [u8]
+fn old_image<'a>(live: Option<Side>, left: &'a [u8], right: &'a [u8]) -> &'a [u8]
     ensures { result.now ≡ or_blank 0 (image_on live left.now right.now) }
 {
     match live {
-        Live::Nowhere => &left[0..0],
-        Live::On(side) => match side {
-            Side::Left => image_of(left),
-            Side::Right => image_of(right),
-        },
+        None => &left[..0],
+        Some(side) => image_of(side.pick(left, right)),
     }
 }
 
@@ -58,14 +49,14 @@ fn old_image<'a>(live: Live, left: &'a [u8], right: &'a [u8]) -> &'a [u8]
 // it, with its number made from the image on the live side. It is apart from `try_entry` since nearly
 // every step of a save is one: no entry is built.
 pub fn try_cell(
-    live: Live,
+    live: Option<Side>,
     side: Side,
     at: ImageOffset,
     offset: PageOffset,
     data: &[u8],
     left: &mut [u8],
     right: &mut [u8],
-) -> Programmed
+) -> Result<(), StepError>
     ensures { ◌≡◌ {A = Tried}
         (record { number = number_in result; left = left.new; right = right.new })
         (attempt
@@ -77,7 +68,7 @@ pub fn try_cell(
         right.old) }
 {
     if !lines::is_clean(left, right, live) {
-        return Programmed::Unfit;
+        return Err(StepError::Unfit);
     }
     let value = images::new_cell(old_image(live, left, right), offset, data, at);
     steps::make_image(side, at, value, left, right)

@@ -1,29 +1,32 @@
 -- Laws of calls of a script.
 -- In order: a buffer, and what is decoded into it; a call made; what is done next.
 -- Assumes nothing.
+use Rattle.walks.specs.declared.Walk.{Walk}
 use Prim.Native.Nat.{ℕ, zero, suc, ◌-◌, ◌%◌, ◌/◌, ◌<◌, ◌≤◌}
-use mathlib.Core.Path.{◌≡◌, refl, sym, ap, subst, ◌∙◌}
+use mathlib.Core.Path.{◌≡◌, refl, sym, ap, ◌∙◌}
 use mathlib.Core.Bool.{Bool, true, false, cond}
 use mathlib.Core.List.{List, [], ◌∷◌, ◌++◌}
 use native.Mathlib.Omega.{arith}
 use lib.Dec.{leb}
-use lib.ListN.{length, take, drop, replicate, length-replicate, length-append}
+use lib.ListN.{length, take, drop, replicate, length-replicate}
 use borrow.Author.Tests.{leb-false, le-leb, lt-leb}
 use Rattle.pages.specs.declared.PageOffset.{PageOffset}
 use Rattle.requests.specs.Numbers.{request_number}
 use Rattle.requests.proofs.Exact.{Case, exactly, only}
-use Rattle.boards.specs.declared.Hand.{Hand}
 use Rattle.boards.specs.declared.Call.{Call}
 use Rattle.boards.specs.declared.Call as L
 use Rattle.boards.specs.declared.Turn.{Turn}
 use Rattle.boards.specs.Boards.{board_in, turn_in, made_on}
 use Rattle.texts.specs.Texts.{line_at, next_line}
 use Rattle.digits.specs.Digits.{bytes_of, Decoded, decoded}
+use Rattle.std.specs.Prelude.{Option, Result}
 use Rattle.asks.specs.declared.Call as K
-use Rattle.asks.specs.Asks.{asks_in, asks_of}
+use Rattle.asks.specs.declared.Wrong.{Wrong}
+use Rattle.asks.specs.Asks.{Asks, asks_in, asks_of}
+use Rattle.turns.specs.declared.Next.{Next}
 use Rattle.turns.specs.declared.Plan.{Plan}
 use Rattle.digits.proofs.Laws.{bytes_length}
-use Rattle.turns.specs.Turns.{loaded, fitting, zeros, made_now, plan_for, plan_from, plan_of}
+use Rattle.turns.specs.Turns.{loaded, fitting, zeros, made_now, next_for, plan_from, plan_of}
 
 pub blank_is : replicate 4096 0 ≡ zeros
 unfolding zeros
@@ -44,11 +47,10 @@ take_zeros (suc n) zero h = absurd (omega arith)
 take_zeros (suc n) (suc m) h = ap (λ (zs : List ℕ). 0 ∷ zs) (take_zeros n m (omega arith))
 
 pub loaded_part : (d buffer into : List ℕ) (n : ℕ) → buffer ≡ zeros
-    → ◌≡◌ {A = Decoded} (record { count = n; buffer = into }) (loaded d buffer) → take (n - 0) into ≡ fitting d
+    → ◌≡◌ {A = Decoded} (record { count = n; buffer = into }) (loaded d buffer) → take n into ≡ fitting d
 unfolding zeros loaded
 loaded_part d buffer into n z e =
-    let m : n - 0 ≡ n = omega arith in
-    ap (λ (k : ℕ). take k into) m ∙ ap (λ (x : Decoded). take x.count x.buffer) e
+    ap (λ (x : Decoded). take x.count x.buffer) e
     ∙ ap (λ (b : List ℕ). take (loaded d b).count (loaded d b).buffer) z
     ∙ (λ i.
     let x : Decoded =
@@ -65,20 +67,6 @@ loaded_part d buffer into n z e =
         ≡ cond t d (replicate (4096 - length d % 2) 0)
     go true = take_prefix d (drop (length d) zeros)
     go false = take_zeros (4096 - length d % 2) 4096 (omega arith)
-
-pub loaded_bound : (d buffer into : List ℕ) (n : ℕ)
-    → ◌≡◌ {A = Decoded} (record { count = n; buffer = into }) (loaded d buffer) → n ≤ length into
-unfolding loaded
-loaded_bound d buffer into n e =
-    subst (λ (x : Decoded). x.count ≤ length x.buffer) (sym e) (go (leb (length d) (length buffer)))
-  where
-    go : (t : Bool)
-        → (let x : Decoded =
-        cond t (record { count = length d; buffer = d ++ drop (length d) buffer })
-        (record { count = length buffer - length d % 2; buffer = buffer }) in
-        x.count ≤ length x.buffer)
-    go true = omega (arith, length-append d (drop (length d) buffer))
-    go false = omega arith
 
 -- data that a buffer takes whole
 abbrev wholly : List ℕ → List ℕ → Decoded
@@ -103,7 +91,7 @@ load_short digits line buffer into n el h e =
     })) t)
     ∙ ap (λ (x : List ℕ). loaded (bytes_of x) buffer) el
 
-load_long : (digits line buffer into : List ℕ) (n k : ℕ) → digits ≡ line → length buffer < length digits / 2
+pub load_long : (digits line buffer into : List ℕ) (n k : ℕ) → digits ≡ line → length buffer < length digits / 2
     → k ≡ length buffer - length digits / 2 % 2
     → ◌≡◌ {A = Decoded} (record { count = n; buffer = into }) (decoded digits buffer)
     → ◌≡◌ {A = Decoded} (record { count = k; buffer = into }) (loaded (bytes_of line) buffer)
@@ -126,23 +114,6 @@ load_long digits line buffer into n k el h ek e =
       buffer = buffer;
     })) t)
     ∙ ap (λ (x : List ℕ). loaded (bytes_of x) buffer) el
-
-pub load_even : (digits line buffer into : List ℕ) (n : ℕ) → digits ≡ line → length buffer < length digits / 2
-    → length digits / 2 % 2 ≡ 0 → ◌≡◌ {A = Decoded} (record { count = n; buffer = into }) (decoded digits buffer)
-    → ◌≡◌ {A = Decoded} (record { count = length buffer; buffer = into }) (loaded (bytes_of line) buffer)
-load_even digits line buffer into n el h z e = load_long digits line buffer into n (length buffer) el h (omega
-    (arith, z)) e
-
-pub load_empty : (digits line buffer into : List ℕ) (n : ℕ) → digits ≡ line → length buffer < length digits / 2
-    → length buffer ≡ 0 → ◌≡◌ {A = Decoded} (record { count = n; buffer = into }) (decoded digits buffer)
-    → ◌≡◌ {A = Decoded} (record { count = 0; buffer = into }) (loaded (bytes_of line) buffer)
-load_empty digits line buffer into n el h z e = load_long digits line buffer into n 0 el h (omega (arith, z)) e
-
-pub load_odd : (digits line buffer into : List ℕ) (n : ℕ) → digits ≡ line → length buffer < length digits / 2
-    → (length digits / 2 % 2 ≡ 0 → ⊥) → ◌≡◌ {A = Decoded} (record { count = n; buffer = into }) (decoded digits buffer)
-    → ◌≡◌ {A = Decoded} (record { count = length buffer - 1; buffer = into }) (loaded (bytes_of line) buffer)
-load_odd digits line buffer into n el h z e =
-    load_long digits line buffer into n (length buffer - 1) el h (omega (arith, z)) e
 
 -- "offset + length above P" stays: data that is longer than any page meets the number that its own length meets
 longer : (k p q : ℕ) (o : PageOffset) (n : ℕ) → 4096 < n → Case k p q o n → Case k p q o (4096 - n % 2)
@@ -173,23 +144,28 @@ same_number p q o d = go (leb (length d) 4096) refl
         (exactly p q o (length d)))
 
 -- a call made with these data
-pub made_with : (call : Call) (t : Turn) (hand : Hand) (held held' d d' l r l' r' out out' : List ℕ) → held ≡ held'
+pub made_with : (call : Call) (t : Turn) (hand : Option Walk) (held held' d d' l r l' r' out out' : List ℕ) → held ≡ held'
     → d ≡ d' → turn_in call t held d l' r' out' ≡ made_on call (board_in hand held l r) d out
     → turn_in call t held' d' l' r' out' ≡ made_on call (board_in hand held' l r) d' out
 made_with call t hand held held' d d' l r l' r' out out' e f h =
     (λ i. turn_in call t (sym e i) (sym f i) l' r' out') ∙ h ∙ (λ i. made_on call (board_in hand (e i) l r) (f i) out)
 
 -- what is done next
-pub line_planned : (text : List ℕ) (at began left room after : ℕ) (line : List ℕ) (call : K.Call) (p : Plan) → left ≡ 0
-    → line ≡ line_at text at → asks_in call ≡ asks_of line → after ≡ next_line text at
-    → p ≡ plan_for (asks_in call) at after (length text) room → p ≡ plan_of text at began left room
+pub line_planned : (text : List ℕ) (at began left room after : ℕ) (line : List ℕ)
+    (asked : Result (Option K.Call) Wrong) (x : Next) → left ≡ 0
+    → line ≡ line_at text at → asks_in asked ≡ asks_of line → after ≡ next_line text at
+    → x ≡ next_for (asks_in asked) at (length text) room
+    → ◌≡◌ {A = Plan} (record { after = after; next = x }) (plan_of text at began left room)
 unfolding plan_of
-line_planned text at began left room after line call p z el ec ea ep =
-    let asks : asks_in call ≡ asks_of (line_at text at) = ec ∙ ap asks_of el in
-    ep ∙ (λ i. plan_for (asks i) at (ea i) (length text) room) ∙ ap (λ (n : ℕ). plan_from text at began n room) (sym z)
+line_planned text at began left room after line asked x z el ec ea ex =
+    let asks : asks_in asked ≡ asks_of (line_at text at) = ec ∙ ap asks_of el in
+    (λ i. record { after = ea i; next = (ex ∙ ap (λ (q : Asks). next_for q at (length text) room) asks) i })
+    ∙ ap (λ (n : ℕ). plan_from text at began n room) (sym z)
 
 pub step_planned : (text : List ℕ) (at began left room : ℕ) → (left ≡ 0 → ⊥)
-    → made_now true at (L.TheVariants.Step 1) began (length text) 0 ≡ plan_of text at began left room
+    → ◌≡◌ {A = Plan}
+    (record { after = at; next = made_now (L.TheVariants.Step 1) began (length text) 0 })
+    (plan_of text at began left room)
 unfolding plan_of
 step_planned text at began zero room h = absurd (h refl)
 step_planned text at began (suc k) room h = refl

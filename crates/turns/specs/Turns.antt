@@ -2,7 +2,7 @@
 -- In order: the data of a line; a call made with it; the call that a line stands for.
 -- Not here: what a line asks for (the crate asks), a call on a board (boards). Laws: proofs/Laws.antt.
 -- Assumes nothing.
-use Rattle.std.specs.Prelude.{ℕ, zero, suc, ◌-◌, ◌%◌, Bool, true, false, cond, List, ◌++◌, leb, length, drop, replicate}
+use Rattle.std.specs.Prelude.{ℕ, zero, suc, ◌-◌, ◌%◌, cond, List, ◌++◌, leb, length, drop, replicate}
 use Rattle.boards.specs.declared.Call.{Call}
 use Rattle.boards.specs.declared.Call as L
 use Rattle.boards.specs.declared.Answer.{Answer}
@@ -13,6 +13,8 @@ use Rattle.digits.specs.Digits.{bytes_of, Decoded}
 use Rattle.asks.specs.Asks as T
 use Rattle.asks.specs.Asks.{Asks, asks_of}
 use Rattle.turns.specs.declared.Turned.{Turned}
+use Rattle.turns.specs.declared.Next.{Next}
+use Rattle.turns.specs.declared.Next as N
 use Rattle.turns.specs.declared.Plan.{Plan}
 
 -- ---- the data of a line
@@ -54,48 +56,34 @@ began_after (A.TheVariants.Output n) own began = began
 -- ---- the call that a line stands for
 -- what is done for a line at a place of a text with this end: steps that are left, or a call, of
 -- which a copy needs room
-abbrev pub left_over : ℕ → ℕ → ℕ → Plan
-left_over steps after end =
-    record {
-      made = false;
-      steps = steps;
-      after = after;
-      call = L.TheVariants.Cut;
-      place = end;
-      begins = end;
-      size = 0;
-    }
+abbrev pub left_over : ℕ → Next
+left_over steps = N.TheVariants.Steps steps
 
-abbrev pub made_now : Bool → ℕ → Call → ℕ → ℕ → ℕ → Plan
-made_now made after call place begins size =
-    record {
-      made = made;
-      steps = 0;
-      after = after;
-      call = call;
-      place = place;
-      begins = begins;
-      size = size;
-    }
+abbrev pub made_now : Call → ℕ → ℕ → ℕ → Next
+made_now call place begins size =
+    N.TheVariants.Make (record { call = call; place = place; begins = begins; size = size })
+
+abbrev pub next_for : Asks → ℕ → ℕ → ℕ → Next
+next_for T.nothing at end room = left_over 0
+next_for (T.save o) at end room = made_now (L.TheVariants.Save o) at at 0
+next_for T.format at end room = made_now L.TheVariants.Format end end 0
+next_for (T.steps n) at end room = left_over n
+next_for T.step_with at end room = made_now (L.TheVariants.Step 1) at end 0
+next_for (T.read o n) at end room = made_now (L.TheVariants.Read o n) end end 0
+next_for (T.read_into o n) at end room =
+    cond (leb n room) (made_now (L.TheVariants.ReadInto o) end end n) (left_over 0)
+next_for T.cut at end room = made_now L.TheVariants.Cut end end 0
+next_for (T.wrong fault n) at end room = left_over 0
 
 abbrev pub plan_for : Asks → ℕ → ℕ → ℕ → ℕ → Plan
-plan_for T.nothing at after end room = left_over 0 after end
-plan_for (T.save o) at after end room = made_now true after (L.TheVariants.Save o) at at 0
-plan_for T.format at after end room = made_now true after L.TheVariants.Format end end 0
-plan_for (T.steps n) at after end room = left_over n after end
-plan_for T.step_with at after end room = made_now true after (L.TheVariants.Step 1) at end 0
-plan_for (T.read o n) at after end room = made_now true after (L.TheVariants.Read o n) end end 0
-plan_for (T.read_into o n) at after end room =
-    made_now (leb n room) after (L.TheVariants.ReadInto o) end end n
-plan_for T.cut at after end room = made_now true after L.TheVariants.Cut end end 0
-plan_for (T.wrong fault n) at after end room = left_over 0 after end
+plan_for asks at after end room = record { after = after; next = next_for asks at end room }
 
 -- where so many steps of the line before are left: one of them, else that line
 abbrev pub plan_from : List ℕ → ℕ → ℕ → ℕ → ℕ → Plan
 plan_from text at began zero room =
     plan_for (asks_of (line_at text at)) at (next_line text at) (length text) room
 plan_from text at began (suc k) room =
-    made_now true at (L.TheVariants.Step 1) began (length text) 0
+    record { after = at; next = made_now (L.TheVariants.Step 1) began (length text) 0 }
 
 unfoldable pub plan_of : List ℕ → ℕ → ℕ → ℕ → ℕ → Plan
 plan_of text at began left room = plan_from text at began left room

@@ -16,34 +16,45 @@ ghost use Rattle.turns.specs.Turns.{
   zeros,
   began_after,
   turn_of,
-  plan_for,
+  next_for,
   plan_of,
 };
 
-use boards::{Answer, Call, Hand};
+use boards::{Answer, Call};
+use walks::Walk;
 
 // The walk in hand after a call, where the line is that began it, how many steps were made, and the
 // answer, as the engine has them.
 #[derive(Clone, Copy)]
 pub struct Turned {
-    pub hand: Hand,
+    pub hand: Option<Walk>,
     pub began: usize,
     pub made: u32,
     pub answer: Answer,
 }
 
-// What is done next: whether a call is made, and how many steps are left where none is; where the line
-// after it is; the call, where its data is, where the line is that begins its walk, and how many bytes
-// it copies.
+// A call that is made: where its data is, where the line is that begins its walk, and how many bytes it
+// copies.
 #[derive(Clone, Copy)]
-pub struct Plan {
-    pub made: bool,
-    pub steps: u32,
-    pub after: usize,
+pub struct Job {
     pub call: Call,
     pub place: usize,
     pub begins: usize,
     pub size: usize,
+}
+
+// A call is made, or none is and so many steps are left.
+#[derive(Clone, Copy)]
+pub enum Next {
+    Make(Job),
+    Steps(u32),
+}
+
+// What is done next, and where the line after it is.
+#[derive(Clone, Copy)]
+pub struct Plan {
+    pub after: usize,
+    pub next: Next,
 }
 
 // A buffer that holds 00.
@@ -74,15 +85,10 @@ pub fn load(text: &[u8], place: usize, into: &mut [u8]) -> usize
     let room = into.len();
     let size = digits::decode(digits, into);
     if count <= room {
-        return size;
+        size
+    } else {
+        room.saturating_sub(count % 2)
     }
-    if count % 2 == 0 {
-        return room;
-    }
-    if room == 0 {
-        return 0;
-    }
-    room - 1
 }
 
 // Where the line is that began the walk in hand, after an answer.
@@ -90,152 +96,103 @@ fn began_after(answer: Answer, begins: usize, began: usize) -> usize
     ensures { result ≡ began_after answer begins began }
 {
     match answer {
-        Answer::Nothing => began,
         Answer::Begun => begins,
-        Answer::Made => began,
-        Answer::Ended => began,
-        Answer::Number(_) => began,
-        Answer::Part(_, _) => began,
-        Answer::Output(_) => began,
+        _ => began,
     }
 }
 
-// Makes a call with the data of the line at a place, on a board whose walk in hand was begun with that
+// Makes a call with the data of the line at its place, on a board whose walk in hand was begun with that
 // of the line at another. A walk that it begins is begun by the line at `begins`.
 pub fn make(
     text: &[u8],
-    call: Call,
-    place: usize,
-    begins: usize,
-    hand: Hand,
+    job: Job,
+    hand: Option<Walk>,
     began: usize,
     left: &mut [u8],
     right: &mut [u8],
     out: &mut [u8],
 ) -> Turned
     ensures { (◌≡◌ {A = Made}
-        (turn_in call (turn_of result)
+        (turn_in job.call (turn_of result)
         (data_at text.now began)
-        (data_at text.now place)
+        (data_at text.now job.place)
         left.new
         right.new
         out.new)
-        (made_on call
+        (made_on job.call
         (board_in hand (data_at text.now began) left.old right.old)
-        (data_at text.now place)
+        (data_at text.now job.place)
         out.old))
-        × (result.began ≡ began_after result.answer begins began) }
+        × (result.began ≡ began_after result.answer job.begins began) }
 {
     let mut held = blank();
     let mut data = blank();
     let held_size = load(text, began, &mut held);
-    let data_size = load(text, place, &mut data);
+    let data_size = load(text, job.place, &mut data);
     let turn = boards::make(
-        call,
+        job.call,
         hand,
-        &held[0..held_size],
-        &data[0..data_size],
+        &held[..held_size],
+        &data[..data_size],
         left,
         right,
         out,
     );
-    let next = turn.hand;
-    let answer = turn.answer;
     Turned {
-        hand: next,
-        began: began_after(answer, begins, began),
+        hand: turn.hand,
+        began: began_after(turn.answer, job.begins, began),
         made: turn.made,
-        answer: answer,
+        answer: turn.answer,
     }
 }
 
-// What is done for the call of a line at a place of a text with this end, where the output has so
-// much room. What has no data has that of the end, where there is none.
-fn line_plan(call: asks::Call, at: usize, after: usize, end: usize, room: usize) -> Plan
-    ensures { result ≡ plan_for (asks_in call) at after end room }
+// What is done for a line at a place of a text with this end, by what it asks for, where the output has
+// so much room. What has no data has that of the end, where there is none.
+fn line_next(
+    asked: Result<Option<asks::Call>, asks::Wrong>,
+    at: usize,
+    end: usize,
+    room: usize,
+) -> Next
+    ensures { result ≡ next_for (asks_in asked) at end room }
 {
+    let Ok(Some(call)) = asked else {
+        return Next::Steps(0);
+    };
+    let none = Job {
+        call: Call::Cut,
+        place: end,
+        begins: end,
+        size: 0,
+    };
     match call {
-        asks::Call::Nothing => Plan {
-            made: false,
-            steps: 0,
-            after: after,
-            call: Call::Cut,
-            place: end,
-            begins: end,
-            size: 0,
-        },
-        asks::Call::Save(offset) => Plan {
-            made: true,
-            steps: 0,
-            after: after,
+        asks::Call::Save(offset) => Next::Make(Job {
             call: Call::Save(offset),
             place: at,
             begins: at,
-            size: 0,
-        },
-        asks::Call::Format => Plan {
-            made: true,
-            steps: 0,
-            after: after,
+            ..none
+        }),
+        asks::Call::Format => Next::Make(Job {
             call: Call::Format,
-            place: end,
-            begins: end,
-            size: 0,
-        },
-        asks::Call::Steps(count) => Plan {
-            made: false,
-            steps: count,
-            after: after,
-            call: Call::Cut,
-            place: end,
-            begins: end,
-            size: 0,
-        },
-        asks::Call::StepWith => Plan {
-            made: true,
-            steps: 0,
-            after: after,
+            ..none
+        }),
+        asks::Call::Steps(steps) => Next::Steps(steps),
+        asks::Call::StepWith => Next::Make(Job {
             call: Call::Step(1),
             place: at,
-            begins: end,
-            size: 0,
-        },
-        asks::Call::Read(offset, len) => Plan {
-            made: true,
-            steps: 0,
-            after: after,
+            ..none
+        }),
+        asks::Call::Read(offset, len) => Next::Make(Job {
             call: Call::Read(offset, len),
-            place: end,
-            begins: end,
-            size: 0,
-        },
-        asks::Call::Copy(offset, len) => Plan {
-            made: len as usize <= room,
-            steps: 0,
-            after: after,
+            ..none
+        }),
+        asks::Call::Copy(offset, len) if len as usize <= room => Next::Make(Job {
             call: Call::ReadInto(offset),
-            place: end,
-            begins: end,
             size: len as usize,
-        },
-        asks::Call::Cut => Plan {
-            made: true,
-            steps: 0,
-            after: after,
-            call: Call::Cut,
-            place: end,
-            begins: end,
-            size: 0,
-        },
-        asks::Call::Wrong(_, _) => Plan {
-            made: false,
-            steps: 0,
-            after: after,
-            call: Call::Cut,
-            place: end,
-            begins: end,
-            size: 0,
-        },
+            ..none
+        }),
+        asks::Call::Copy(..) => Next::Steps(0),
+        asks::Call::Cut => Next::Make(none),
     }
 }
 
@@ -246,16 +203,19 @@ pub fn plan_next(text: &[u8], at: usize, began: usize, left: u32, room: usize) -
 {
     let end = text.len();
     if left == 0 {
-        let call = asks::parse(texts::line_at(text, at));
-        return line_plan(call, at, texts::next_line(text, at), end, room);
+        let asked = asks::parse(texts::line_at(text, at));
+        return Plan {
+            after: texts::next_line(text, at),
+            next: line_next(asked, at, end, room),
+        };
     }
     Plan {
-        made: true,
-        steps: 0,
         after: at,
-        call: Call::Step(1),
-        place: began,
-        begins: end,
-        size: 0,
+        next: Next::Make(Job {
+            call: Call::Step(1),
+            place: began,
+            begins: end,
+            size: 0,
+        }),
     }
 }

@@ -2,9 +2,9 @@
 -- In order: what a read shows; bytes of the old and the new image; the new image, byte after byte, and that it is the old
 -- one with the data laid in; the verdict; counts, and what is counted for what a read shows.
 -- Assumes nothing.
-use Rattle.std.proofs.Common.{◌≡◌, ℕ, zero, suc, ◌+◌, ◌-◌, ◌*◌, ◌<◌, ◌≤◌, Bool, true, false, cond, ◌&&◌, eqb, ltb, List, [], ◌∷◌, length, get_or, take, drop, sym, refl, ap, ◌∙◌, ap₂, ⊎_elim, le_of_suc-le-suc, arith, drop_of_length-le, drop-cons, ext_get_or, le-ltb, lt-ltb, eq-eqb, ne_eqb, eqb-true, le-leb}
+use Rattle.std.proofs.Common.{◌≡◌, ℕ, zero, suc, ◌+◌, ◌-◌, ◌*◌, ◌<◌, ◌≤◌, Bool, true, false, cond, ◌&&◌, eqb, ltb, List, [], ◌∷◌, length, get_or, take, drop, sym, refl, ap, ◌∙◌, ⊎_elim, le_of_suc-le-suc, arith, ext_get_or, le-ltb, lt-ltb, eqb-true}
 use lib.ListN.{get_or-eq_default}
-use borrow.Author.Tests.{lt-leb}
+use Rattle.std.proofs.lemmas.List.{get_or_default}
 use Rattle.pages.specs.declared.PageOffset.{PageOffset}
 use Rattle.pages.specs.declared.ImageOffset.{ImageOffset}
 use Rattle.pages.specs.Offsets.{to_page}
@@ -19,7 +19,8 @@ use Rattle.images.specs.Images.{overlaid, laid_in}
 use Rattle.images.proofs.Overlay.{byte_either, length_overlaid}
 use Rattle.images.proofs.Laid.{laid_at}
 use Rattle.texts.specs.Texts.{same}
-use Rattle.texts.proofs.Laws.{same_is}
+use Rattle.std.specs.Cmp.Lexicographic.{pointwise}
+use Rattle.std.specs.List.{list_all, zip, range_with_len}
 use Rattle.verdicts.specs.declared.Tally.{Tally}
 use Rattle.verdicts.specs.Verdicts.{
   shown,
@@ -56,17 +57,8 @@ too_long l r h = go (eqb (read_number l r (to_page (record { 0 = 0 })) (cell_cou
     go false e = refl
 
 -- ---- bytes
--- inside a list what stands for a missing byte doesn't count
-get_d_inside : (l : List ℕ) (i a b : ℕ) → i < length l → get_or l i a ≡ get_or l i b
-get_d_inside [] i a b h = absurd (omega (arith, h))
-get_d_inside (x ∷ xs) zero a b h = refl
-get_d_inside (x ∷ xs) (suc i) a b h = get_d_inside xs i a b (le_of_suc-le-suc h)
-
 pub old_inside : (image : List ℕ) (i : ImageOffset) → i.0 < length image → get_or image i.0 0 ≡ old_byte image i
-old_inside image i h = get_d_inside image i.0 0 255 h
-
-pub old_outside : (image : List ℕ) (i : ImageOffset) → length image ≤ i.0 → 255 ≡ old_byte image i
-old_outside image i h = sym (get_or-eq_default image 255 h)
+old_inside image i h = get_or_default image i.0 0 255 h
 
 -- before the data, in it and after it, by the page offset of the byte
 pub new_before : (image : List ℕ) (o : PageOffset) (d : List ℕ) (i : ImageOffset) (p : PageOffset) (x : ℕ)
@@ -80,7 +72,7 @@ new_before image o d i p x ep h e =
 pub new_inside : (image : List ℕ) (o : PageOffset) (d : List ℕ) (i : ImageOffset) (p : PageOffset) → p ≡ to_page i
     → o.0 ≤ p.0 → p.0 - o.0 < length d → get_or d (p.0 - o.0) 0 ≡ new_byte image o d i
 new_inside image o d i p ep h k =
-    get_d_inside d (p.0 - o.0) 0 (old_byte image i) k
+    get_or_default d (p.0 - o.0) 0 (old_byte image i) k
     ∙ sym (ap
     (λ (q : PageOffset). cond (ltb q.0 o.0) (old_byte image i) (get_or d (q.0 - o.0) (old_byte image i))) (sym ep)
     ∙ ap (λ (t : Bool). cond t (old_byte image i) (get_or d (p.0 - o.0) (old_byte image i))) (le-ltb p.0 o.0 h))
@@ -97,30 +89,12 @@ new_after image o d i p x ep h k e =
 abbrev pub at : ℕ → ImageOffset
 at i = record { 0 = i }
 
-pub new_stop : (image old : List ℕ) (o : PageOffset) (d : List ℕ) (i : ℕ) → i < length image
-    → (get_or image i 0 ≡ new_byte old o d (at i) → ⊥) → false ≡ is_new (drop i image) old o d i
+pub each_is_new : (image old : List ℕ) (o : PageOffset) (d : List ℕ) (i : ℕ)
+    → list_all (λ (p : ℕ × ℕ). eqb p.1 (new_byte old o d (at p.0))) (zip (range_with_len i (length image)) image)
+    ≡ is_new image old o d i
 unfolding is_new
-new_stop image old o d i h k =
-    sym (ap (λ (l : List ℕ). is_new l old o d i) (drop-cons image i 0 h)
-    ∙ ap (λ (t : Bool). t && is_new (drop (suc i) image) old o d (i + 1)) (ne_eqb (get_or image i 0) (new_byte old o d
-    (at i)) k))
-
-pub new_next : (image old : List ℕ) (o : PageOffset) (d : List ℕ) (i : ℕ) → i < length image
-    → get_or image i 0 ≡ new_byte old o d (at i)
-    → is_new (drop (i + 1) image) old o d (i + 1) ≡ is_new (drop i image) old o d i
-unfolding is_new
-new_next image old o d i h e =
-    let n : suc i ≡ i + 1 = omega arith in
-    sym
-    (ap (λ (l : List ℕ). is_new l old o d i) (drop-cons image i 0 h)
-    ∙ ap (λ (t : Bool). t && is_new (drop (suc i) image) old o d (i + 1)) (eq-eqb (get_or image i 0) (new_byte old o d
-    (at i)) e)
-    ∙ ap (λ (k : ℕ). is_new (drop k image) old o d (i + 1)) n)
-
-pub new_end : (image old : List ℕ) (o : PageOffset) (d : List ℕ) (i : ℕ) → length image ≤ i
-    → true ≡ is_new (drop i image) old o d i
-unfolding is_new
-new_end image old o d i h = sym (ap (λ (l : List ℕ). is_new l old o d i) (drop_of_length-le image {i = i} h))
+each_is_new [] old o d i = refl
+each_is_new (x ∷ xs) old o d i = ap (λ t. eqb x (new_byte old o d (at i)) && t) (each_is_new xs old o d (i + 1))
 
 -- the new image is the old one with the data laid in
 laid_byte : (old : List ℕ) (o : PageOffset) (d : List ℕ) (i : ℕ) → 4 ≤ o.0 → o.0 - 4 ≤ length old → i < length old
@@ -169,17 +143,12 @@ new_is_laid image old o d e small g h t =
     ∙ sym (laid_at old o d g)
 
 -- ---- the verdict
-pub saved_never : (image old : List ℕ) (o : PageOffset) (d : List ℕ) → 4096 < length image
-    → false ≡ is_saved image old o d
-saved_never image old o d h = sym (ap (λ (t : Bool). t && is_new image old o d 0) (lt-leb (length image) 4096 h))
-
-pub saved_if : (image old : List ℕ) (o : PageOffset) (d : List ℕ) (t : Bool) → length image ≤ 4096
-    → t ≡ is_new image old o d 0 → t ≡ is_saved image old o d
-saved_if image old o d t h e = e ∙ sym (ap (λ (u : Bool). u && is_new image old o d 0) (le-leb (length image) 4096 h))
-
-pub judged : (a b : List ℕ) (r new t u : Bool) (v : Shows) → (r ≡ true → a ≡ b) × (a ≡ b → r ≡ true) → r ≡ t → new ≡ u
-    → v ≡ image_verdict t u → v ≡ image_verdict (same a b) new
-judged a b r new t u v h e f g = g ∙ sym (ap₂ image_verdict (same_is a b r t h e) f)
+pub same_pointwise : (a b : List ℕ) → same a b ≡ pointwise eqb a b
+unfolding same
+same_pointwise [] [] = refl
+same_pointwise [] (y ∷ ys) = refl
+same_pointwise (x ∷ xs) [] = refl
+same_pointwise (x ∷ xs) (y ∷ ys) = ap (λ t. eqb x y && t) (same_pointwise xs ys)
 
 pub shows : (q : Request) (image old : List ℕ) (o : PageOffset) (d : List ℕ) (t : Bool) (v : Shows) → 0 < length image
     → t ≡ is_asked q image old o d → v ≡ image_verdict (same image old) t → v ≡ verdict_of q image old o d
@@ -202,9 +171,6 @@ never_there q [] (y ∷ ys) o d h k = absurd (omega (arith, k))
 never_there q (x ∷ xs) old o d h k = absurd (omega (arith, h))
 
 -- ---- counts
-pub counted_as : (t s : Tally) (v w : Shows) → v ≡ w → s ≡ counted t w → s ≡ counted t v
-counted_as t s v w e h = h ∙ ap (counted t) (sym e)
-
 counted_image : (t : Tally) (is-old is-asked : Bool)
     → counted t (image_verdict is-old is-asked)
     ≡ cond is-old

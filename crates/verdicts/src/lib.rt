@@ -15,20 +15,16 @@ ghost use Rattle.verdicts.specs.Verdicts.{
   image_verdict,
   verdict_in,
   verdict_of,
-  one_more,
   no_cuts,
   counted,
 };
 
-use pages::{ImageOffset, PageOffset};
+use pages::{ImageOffset, MAX_PAGE, PageOffset};
 use plans::Request;
-
-// The length of the longest image, and more.
-const MAX_PAGE: usize = pages::MAX_PAGE;
 
 // What a read shows after a cut: no image, as before; the image before, which may be the new one too;
 // the new one; no image, as a format is to leave; or another.
-#[derive(Clone, Copy)]
+#[derive(Clone, Copy, Debug, PartialEq, Eq)]
 pub enum Verdict {
     NoImage,
     Old,
@@ -39,7 +35,7 @@ pub enum Verdict {
 }
 
 // How often a read showed what.
-#[derive(Clone, Copy)]
+#[derive(Clone, Copy, Debug, PartialEq, Eq)]
 pub struct Tally {
     pub old: u64,
     pub new: u64,
@@ -48,12 +44,13 @@ pub struct Tally {
 
 // ---- what a read shows
 // What a read of the whole image gives: nothing where no page is live.
+#[tactic(auto, using(crate::proofs::Laws::too_long))]
 pub fn image<'a>(left: &'a [u8], right: &'a [u8]) -> &'a [u8]
     ensures { result.now ≡ shown left.now right.now }
 {
     let size = left.len();
     if MAX_PAGE < size {
-        return &left[0..0];
+        return &[];
     }
     let start = ImageOffset(0).to_page();
     reads::read(left, right, start, plans::cell_count(size as u32) * 2)
@@ -63,12 +60,7 @@ pub fn image<'a>(left: &'a [u8], right: &'a [u8]) -> &'a [u8]
 fn old_byte(image: &[u8], at: ImageOffset) -> u8
     ensures { result ≡ old_byte image.now at }
 {
-    let place = at.0 as usize;
-    if place < image.len() {
-        image[place]
-    } else {
-        255
-    }
+    image.get(at.0 as usize).copied().unwrap_or(255)
 }
 
 // A byte of an image into which data is laid from a page offset on.
@@ -76,27 +68,20 @@ fn new_byte(image: &[u8], offset: PageOffset, data: &[u8], at: ImageOffset) -> u
     ensures { result ≡ new_byte image.now offset «data».now at }
 {
     let place = at.to_page().0;
-    let start = offset.0;
-    if place < start {
-        return old_byte(image, at);
+    let old = old_byte(image, at);
+    if place < offset.0 {
+        return old;
     }
-    let inside = (place - start) as usize;
-    if inside < data.len() {
-        return data[inside];
-    }
-    old_byte(image, at)
+    let inside = (place - offset.0) as usize;
+    data.get(inside).copied().unwrap_or(old)
 }
 
 fn is_new(image: &[u8], old: &[u8], offset: PageOffset, data: &[u8]) -> bool
     requires { length image.now ≤ 4096 }
     ensures { result ≡ is_new image.now old.now offset «data».now 0 }
 {
-    for i in 0..image.len() {
-        if image[i] != new_byte(old, offset, data, ImageOffset(i as u32)) {
-            return false;
-        }
-    }
-    true
+    (0..image.len() as u32).zip(image).all(|(at, byte)| *byte
+        == new_byte(old, offset, data, ImageOffset(at)))
 }
 
 // Whether an image is the one before the save with the data laid in at a page offset. None is longer
@@ -104,25 +89,19 @@ fn is_new(image: &[u8], old: &[u8], offset: PageOffset, data: &[u8]) -> bool
 fn is_saved(image: &[u8], old: &[u8], offset: PageOffset, data: &[u8]) -> bool
     ensures { result ≡ is_saved image.now old.now offset «data».now }
 {
-    if MAX_PAGE < image.len() {
-        return false;
-    }
-    is_new(image, old, offset, data)
+    image.len() <= MAX_PAGE && is_new(image, old, offset, data)
 }
 
+#[tactic(auto, using(crate::proofs::Laws::same_pointwise))]
 fn judge_image(image: &[u8], old: &[u8], new: bool) -> Verdict
     ensures { verdict_in result ≡ image_verdict (same image.now old.now) new }
 {
-    if check::same(image, old) {
-        if new {
-            return Verdict::Both;
-        }
-        return Verdict::Old;
+    match (image == old, new) {
+        (true, true) => Verdict::Both,
+        (true, false) => Verdict::Old,
+        (false, true) => Verdict::New,
+        (false, false) => Verdict::Another,
     }
-    if new {
-        return Verdict::New;
-    }
-    Verdict::Another
 }
 
 // Whether an image is the one that a request is to leave: a format leaves none.
@@ -148,23 +127,16 @@ fn judge_lost(request: Request) -> Verdict
 
 // What an image that a read shows is beside the one before a format, or before a save of the data at
 // a page offset. No bytes stand for no image.
+#[tactic(auto, using(crate::proofs::Laws::shows, crate::proofs::Laws::lost, crate::proofs::Laws::never_there))]
 pub fn judge(request: Request, image: &[u8], old: &[u8], offset: PageOffset, data: &[u8]) -> Verdict
     ensures { verdict_in result
         ≡ verdict_of request image.now old.now offset «data».now }
 {
-    if 0 < image.len() {
-        return judge_image(image, old, is_asked(request, image, old, offset, data));
+    match (image, old) {
+        ([], []) => Verdict::NoImage,
+        ([], _) => judge_lost(request),
+        _ => judge_image(image, old, is_asked(request, image, old, offset, data)),
     }
-    if 0 < old.len() {
-        return judge_lost(request);
-    }
-    Verdict::NoImage
-}
-
-fn one_more(n: u64) -> u64
-    ensures { result ≡ one_more n }
-{
-    std::num::wrapping_add_u64(n, 1)
 }
 
 impl Tally {
@@ -182,32 +154,24 @@ impl Tally {
     pub fn with(self, verdict: Verdict) -> Tally
         ensures { result ≡ counted self (verdict_in verdict) }
     {
-        let mut next = self;
         match verdict {
-            Verdict::New => {
-                next.new = one_more(self.new);
-            }
-            Verdict::Gone => {
-                next.new = one_more(self.new);
-            }
-            Verdict::Another => {
-                next.another = one_more(self.another);
-            }
-            Verdict::NoImage => {
-                next.old = one_more(self.old);
-            }
-            Verdict::Old => {
-                next.old = one_more(self.old);
-            }
-            Verdict::Both => {
-                next.old = one_more(self.old);
-            }
+            Verdict::NoImage | Verdict::Old | Verdict::Both => Tally {
+                old: self.old.wrapping_add(1),
+                ..self
+            },
+            Verdict::New | Verdict::Gone => Tally {
+                new: self.new.wrapping_add(1),
+                ..self
+            },
+            Verdict::Another => Tally {
+                another: self.another.wrapping_add(1),
+                ..self
+            },
         }
-        next
     }
 }
 
-// Whether a read showed another image.
+// Whether a read showed another image. The pages name this function, so it is no method.
 pub fn has_another(tally: Tally) -> bool
     ensures { result ≡ nat_lt 0 tally.another }
 {

@@ -104,14 +104,6 @@ on_step most w l r d o e =
 abbrev pub left_to_do : ℕ → ℕ → Walk → List ℕ → List ℕ → List ℕ → Course
 left_to_do most n w l r d = more n (run_of (most - n) w l r d)
 
-pub all_left : (most : ℕ) (w : Walk) (l r d : List ℕ) → left_to_do most 0 w l r d ≡ run_of most w l r d
-all_left most w l r d =
-    let m : most - 0 ≡ most = omega arith in
-    let c = run_of most w l r d in
-    let n : 0 + c.steps ≡ c.steps = omega arith in
-    ap (λ (k : ℕ). more 0 (run_of k w l r d)) m
-    ∙ (λ i. record { said = c.said; steps = n i; walk = c.walk; left = c.left; right = c.right })
-
 next : (most n : ℕ) → n < most → most - n ≡ suc (most - (n + 1))
 next most n h = omega arith
 
@@ -146,27 +138,21 @@ goes_on most n w u place l r d l' r' s h v f p =
     ∙ sym (one_step most n (at_place w place) l r d l' r' s Made h e p)
 
 -- a step that isn't made is the last
-stops : (most n : ℕ) (w : Walk) (l r d l' r' : List ℕ) (s : S.Stepped) (p : Progress) (x : R.Ran) → n < most
-    → outcome s l' r' ≡ step_of w l r d → s.progress ≡ p → x ≡ (record { walk = s.walk; steps = n; progress = p })
-    → ((a b : Course) → if_made (said_in p) a b ≡ b) → course x l' r' ≡ left_to_do most n w l r d
-stops most n w l r d l' r' s p x h e q y f =
+unmade : (p : Progress) (a b : Course) → (p ≡ Made → ⊥) → if_made (said_in p) a b ≡ b
+unmade Made a b h = absurd (h refl)
+unmade Ended a b h = refl
+unmade Unfit a b h = refl
+
+pub stops : (most n : ℕ) (w u : Walk) (l r d l' r' : List ℕ) (s : S.Stepped) (x : R.Ran) → n < most → u ≡ w
+    → outcome s l' r' ≡ step_of u l r d → (s.progress ≡ Made → ⊥)
+    → x ≡ (record { walk = s.walk; steps = n; progress = s.progress }) → course x l' r' ≡ left_to_do most n w l r d
+stops most n w u l r d l' r' s x h v e q y =
     let z : n ≡ n + 0 = omega arith in
     ap (λ (u : R.Ran). course u l' r') y
-    ∙ (λ i. record { said = said_in p; steps = z i; walk = s.walk; left = l'; right = r' })
-    ∙ ap (more n) (sym (f (one_more (run_of (most - (n + 1)) s.walk l' r' d)) _))
-    ∙ sym (one_step most n w l r d l' r' s p h e q)
-
-pub ends : (most n : ℕ) (w u : Walk) (l r d l' r' : List ℕ) (s : S.Stepped) (x : R.Ran) → n < most → u ≡ w
-    → outcome s l' r' ≡ step_of u l r d → s.progress ≡ Ended
-    → x ≡ (record { walk = s.walk; steps = n; progress = Ended }) → course x l' r' ≡ left_to_do most n w l r d
-ends most n w u l r d l' r' s x h v e q y =
-    stops most n u l r d l' r' s Ended x h e q y (λ a b. refl) ∙ ap (λ (z : Walk). left_to_do most n z l r d) v
-
-pub breaks : (most n : ℕ) (w u : Walk) (l r d l' r' : List ℕ) (s : S.Stepped) (x : R.Ran) → n < most → u ≡ w
-    → outcome s l' r' ≡ step_of u l r d → s.progress ≡ Unfit
-    → x ≡ (record { walk = s.walk; steps = n; progress = Unfit }) → course x l' r' ≡ left_to_do most n w l r d
-breaks most n w u l r d l' r' s x h v e q y =
-    stops most n u l r d l' r' s Unfit x h e q y (λ a b. refl) ∙ ap (λ (z : Walk). left_to_do most n z l r d) v
+    ∙ (λ i. record { said = said_in s.progress; steps = z i; walk = s.walk; left = l'; right = r' })
+    ∙ ap (more n) (sym (unmade s.progress (one_more (run_of (most - (n + 1)) s.walk l' r' d)) _ q))
+    ∙ sym (one_step most n u l r d l' r' s s.progress h e refl)
+    ∙ ap (λ (z : Walk). left_to_do most n z l r d) v
 
 -- and where as many were made as were asked for, none is left
 pub spent : (most n : ℕ) (w u : Walk) (l r d : List ℕ) (x : R.Ran) → most ≤ n → u ≡ w

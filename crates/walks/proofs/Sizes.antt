@@ -2,6 +2,7 @@
 -- table of counts says.
 -- In order: the new image; what right numbers say; the list.
 -- Assumes nothing.
+use Rattle.std.specs.Prelude.{Option, Some, None}
 use Prim.Native.Nat.{ℕ, ◌-◌}
 use mathlib.Core.Path.{◌≡◌, refl, sym, ap, subst, ◌∙◌}
 use mathlib.Core.Bool.{false, not, ◌||◌}
@@ -12,8 +13,6 @@ use lib.ListN.{length, drop, length-drop, length-replicate}
 use borrow.Author.Tests.{eqb-true, not-false}
 use Rattle.pages.specs.declared.Side.{Side}
 use Rattle.pages.specs.declared.Side.TheVariants.{Left, Right}
-use Rattle.pages.specs.declared.Live.{Live}
-use Rattle.pages.specs.declared.Live.TheVariants.{Nowhere, On}
 use Rattle.pages.specs.declared.PageOffset.{PageOffset}
 use Rattle.pages.specs.Pages.{on_side, live_of, status_of}
 use Rattle.pages.specs.Offsets.{image_size}
@@ -33,13 +32,13 @@ side_length : (s : Side) (l r : List ℕ) (p : ℕ) → length l ≡ p → lengt
 side_length Left l r p e f = length-drop 4 l ∙ ap (λ (n : ℕ). n - 4) e
 side_length Right l r p e f = length-drop 4 r ∙ ap (λ (n : ℕ). n - 4) f
 
-pub base_length : (v u : Live) (l r : List ℕ) (p : ℕ) → length l ≡ p → length r ≡ p
+pub base_length : (v u : Option Side) (l r : List ℕ) (p : ℕ) → length l ≡ p → length r ≡ p
     → length (or_blank (image_size p) (source v (image_on u l r))) ≡ image_size p
-base_length Nowhere u l r p e f = length-replicate (p - 4) 255
-base_length (On s) Nowhere l r p e f = length-replicate (p - 4) 255
-base_length (On s) (On t) l r p e f = side_length t l r p e f
+base_length None u l r p e f = length-replicate (p - 4) 255
+base_length (Some s) None l r p e f = length-replicate (p - 4) 255
+base_length (Some s) (Some t) l r p e f = side_length t l r p e f
 
-pub new_length : (v : Live) (l r : List ℕ) (p : ℕ) (o : PageOffset) (d : List ℕ) → length l ≡ p → length r ≡ p
+pub new_length : (v : Option Side) (l r : List ℕ) (p : ℕ) (o : PageOffset) (d : List ℕ) → length l ≡ p → length r ≡ p
     → Legal p p o (length d) → length (new_image v p o d (live_image l r)) ≡ image_size p
 unfolding live_image
 new_length v l r p o d e f h =

@@ -1,6 +1,7 @@
 -- Laws of a step.
 -- In order: wrong numbers; beyond the end and at it; an entry tried; what a step that isn't made keeps.
 -- Not here: which entry stands at a place (Laws.antt); wrong numbers themselves (Numbers.antt). Assumes nothing.
+use Rattle.std.specs.Prelude.{Result, Ok, Err}
 use Prim.Native.Nat.{ℕ, ◌<◌}
 use mathlib.Core.Path.{◌≡◌, sym, ap, ◌∙◌}
 use mathlib.Core.Bool.{true, false}
@@ -8,8 +9,8 @@ use mathlib.Core.List.{List}
 use native.Mathlib.Omega.{arith}
 use lib.ListN.{length, get_or}
 use borrow.Author.Tests.{eq-eqb, ne_eqb, lt-ltb, le-ltb}
-use Rattle.flash.specs.declared.Programmed.{Programmed}
-use Rattle.flash.specs.declared.Programmed.TheVariants.{Made, Unfit}
+use Rattle.flash.specs.declared.StepError.{StepError}
+use Rattle.flash.specs.declared.StepError.TheVariants.{Unfit}
 use Rattle.flash.specs.Flash.{number_in}
 use Rattle.flash.proofs.Laws.{told}
 use Rattle.steps.specs.Steps.{Tried}
@@ -76,8 +77,8 @@ step_on w l r d t e h f =
     ))
     ∙ step_right w l r d e
 
-pub step_made : (w next : Walk) (l r d l' r' : List ℕ) (p : Programmed)
-    → wrong_numbers w (length l) (length r) (length d) ≡ false → w.place < total_of w → p ≡ Made → next ≡ advanced w
+pub step_made : (w next : Walk) (l r d l' r' : List ℕ) (p : Result (Unit {0}) StepError)
+    → wrong_numbers w (length l) (length r) (length d) ≡ false → w.place < total_of w → p ≡ Ok tt → next ≡ advanced w
     → ◌≡◌ {A = Tried} (record { number = number_in p; left = l'; right = r' })
     (attempt (get_or (steps_of w l r d) w.place nothing) l r)
     → ◌≡◌ {A = Outcome} (record { said = made; walk = next; left = l'; right = r' }) (step_of w l r d)
@@ -85,17 +86,17 @@ unfolding after
 step_made w next l r d l' r' p e h q n f =
     ap (λ (x : Walk). record { said = made; walk = x; left = l'; right = r' }) n
     ∙ step_on w l r d (record { number = 0; left = l'; right = r' }) e h
-    (told (λ (x : Programmed). record { number = number_in x; left = l'; right = r' }) q f)
+    (told (λ (x : Result (Unit {0}) StepError). record { number = number_in x; left = l'; right = r' }) q f)
 
-pub step_unfit : (w : Walk) (l r d l' r' : List ℕ) (p : Programmed)
-    → wrong_numbers w (length l) (length r) (length d) ≡ false → w.place < total_of w → p ≡ Unfit
+pub step_unfit : (w : Walk) (l r d l' r' : List ℕ) (p : Result (Unit {0}) StepError)
+    → wrong_numbers w (length l) (length r) (length d) ≡ false → w.place < total_of w → p ≡ Err Unfit
     → ◌≡◌ {A = Tried} (record { number = number_in p; left = l'; right = r' })
     (attempt (get_or (steps_of w l r d) w.place nothing) l r)
     → kept (number 6) w l' r' ≡ step_of w l r d
 unfolding after
 step_unfit w l r d l' r' p e h q f =
     step_on w l r d (record { number = 6; left = l'; right = r' }) e h
-    (told (λ (x : Programmed). record { number = number_in x; left = l'; right = r' }) q f)
+    (told (λ (x : Result (Unit {0}) StepError). record { number = number_in x; left = l'; right = r' }) q f)
 
 -- the answer of a step, from the walk and the word that it is made of
 pub answered : (s : Stepped) (w : Walk) (p : Progress) (l r : List ℕ) (o : Outcome)

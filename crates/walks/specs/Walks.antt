@@ -3,10 +3,10 @@
 -- another.
 -- Not here: the list of steps of a request (the crate plans); an entry tried on the pages (tries).
 -- Laws: proofs/. Assumes nothing.
+use Rattle.std.specs.Prelude.{Option, Some, None, Result, Ok, Err}
+use Rattle.pages.specs.declared.Side.{Side}
+use Rattle.requests.specs.declared.Refusal.{Refusal}
 use Rattle.std.specs.Prelude.{ℕ, zero, suc, ◌+◌, Bool, false, cond, not, ◌||◌, List, eqb, ltb, length, get_or}
-use Rattle.std.proofs.Math.Option.{Option, none}
-use Rattle.pages.specs.declared.Live.{Live}
-use Rattle.pages.specs.declared.Live.TheVariants.{Nowhere, On}
 use Rattle.pages.specs.declared.PageOffset.{PageOffset}
 use Rattle.pages.specs.Pages.{live_of}
 use Rattle.pages.specs.Offsets.{image_size}
@@ -17,8 +17,6 @@ use Rattle.plans.specs.declared.Request.{Request}
 use Rattle.plans.specs.declared.Request.TheVariants.{Save, Format}
 use Rattle.plans.specs.declared.Entry.{Entry}
 use Rattle.walks.specs.declared.Walk.{Walk}
-use Rattle.walks.specs.declared.Begun as B
-use Rattle.walks.specs.declared.Begun.{Begun}
 use Rattle.walks.specs.declared.Progress as P
 use Rattle.walks.specs.declared.Progress.{Progress}
 use Rattle.plans.specs.Plans.{plan, nothing}
@@ -27,13 +25,13 @@ use Rattle.tries.specs.Tries.{attempt}
 
 -- ---- the new image, and the list of a walk
 -- what the new image is made from: no image at line 0, else the live one
-abbrev pub source : Live → Option (List ℕ) → Option (List ℕ)
-source Nowhere image = none
-source (On s) image = image
+abbrev pub source : Option Side → Option (List ℕ) → Option (List ℕ)
+source None image = None
+source (Some s) image = image
 
 -- "The new image is the live image, or all FF at line 0, with the data laid in at the offset", from
 -- the live side at the beginning, P, the page offset, the data and the live image
-abbrev pub new_image : Live → ℕ → PageOffset → List ℕ → Option (List ℕ) → List ℕ
+abbrev pub new_image : Option Side → ℕ → PageOffset → List ℕ → Option (List ℕ) → List ℕ
 new_image began p o d image = laid_in (or_blank (image_size p) (source began image)) o d
 
 -- the list of steps of a walk, from the pages as they are and the data
@@ -64,9 +62,9 @@ pub data Beginning : Type 0 where
   begun : Walk → Beginning
 
 -- document 01's number, or the walk, for each answer
-abbrev pub beginning_in : Begun → Beginning
-beginning_in (B.TheVariants.Refused why) = refused (number_of why)
-beginning_in (B.TheVariants.On w) = begun w
+abbrev pub beginning_in : Result Walk Refusal → Beginning
+beginning_in (Err why) = refused (number_of why)
+beginning_in (Ok w) = begun w
 
 abbrev pub beginning : ℕ → Walk → Beginning
 beginning number w = cond (eqb number 0) (begun w) (refused number)

@@ -34,10 +34,10 @@ ghost use Rattle.walks.specs.Walks.{
   run_of,
 };
 
-use flash::Programmed;
+use flash::StepError;
 use pages::{PageOffset, State};
-use plans::{InCells, Request, Spot};
-use requests::{Check, Refusal};
+use plans::{Plan, Request, Spot};
+use requests::Refusal;
 
 // A walk: the request, the line and erased-or-not that it began with, P, page offset, length, and
 // its place in the list.
@@ -52,15 +52,8 @@ pub struct Walk {
     pub place: u32,
 }
 
-// How a beginning is answered.
-#[derive(Clone, Copy)]
-pub enum Begun {
-    On(Walk),
-    Refused(Refusal),
-}
-
 // How a step is answered: made, no step is left, or it doesn't fit.
-#[derive(Clone, Copy)]
+#[derive(Clone, Copy, PartialEq, Eq)]
 pub enum Progress {
     Made,
     Ended,
@@ -90,30 +83,28 @@ fn first_walk(request: Request, left: &[u8], right: &[u8], offset: PageOffset, l
     ensures { result ≡ first_walk request left.now right.now offset len }
 {
     let start = lines::start_of(request, left, right);
-    let state = start.state;
-    let page = left.len() as u32;
     Walk {
-        request: request,
-        start: state,
+        request,
+        start: start.state,
         erased: start.erased,
-        page: page,
-        offset: offset,
-        len: len,
+        page: left.len() as u32,
+        offset,
+        len,
         place: 0,
     }
 }
 
 // Number 1 to 4, with the lengths that a page may have as the walk's type has them.
-fn check_numbers(left: usize, right: usize, offset: PageOffset, len: usize) -> Check
+fn check_numbers(left: usize, right: usize, offset: PageOffset, len: usize) -> Result<(), Refusal>
     ensures { check_number result ≡ request_number left right offset len 0 }
 {
     requests::check_within(left, right, Walk::MIN_PAGE, Walk::MAX_PAGE, offset, len)
 }
 
 // ---- stepping
-// The entry at the walk's place, tried on the pages. Its place lies in the list, so `Beyond` isn't
-// met; image cells are asked for first, so that they take no turn through an entry.
-fn try_step(walk: Walk, left: &mut [u8], right: &mut [u8], data: &[u8]) -> Programmed
+// The entry at the walk's place, tried on the pages. Image cells are asked for first, so that they take
+// no turn through an entry; what else stands there is an entry, since the place lies in the list.
+fn try_step(walk: Walk, left: &mut [u8], right: &mut [u8], data: &[u8]) -> Result<(), StepError>
     requires { (wrong_numbers walk (length left.old) (length right.old) (length «data».now)
         ≡ false)
         × (walk.place < step_count walk.request walk.start walk.erased walk.page) }
@@ -125,22 +116,15 @@ fn try_step(walk: Walk, left: &mut [u8], right: &mut [u8], data: &[u8]) -> Progr
         left.old
         right.old) }
 {
-    let request = walk.request;
-    let start = walk.start;
-    let offset = walk.offset;
-    match entries::cell_at(request, start, walk.erased, walk.page, walk.place) {
-        InCells::At(side, at) => {
-            let live = start.live();
-            tries::try_cell(live, side, at, offset, data, left, right)
-        }
-        InCells::Outside => {
-            match entries::spot_at(request, start, walk.erased, walk.page, walk.place) {
-                Spot::Fixed(x) => tries::try_entry(x, left, right),
-                Spot::Cell(_, _, _) => Programmed::Unfit,
-                Spot::Beyond => Programmed::Unfit,
-            }
-        }
+    let plan = walk.plan();
+    if let Some(cell) = entries::cell_at(plan, walk.place) {
+        let live = walk.start.live();
+        return tries::try_cell(live, cell.side, cell.at, walk.offset, data, left, right);
     }
+    let Some(Spot::Fixed(entry)) = entries::spot_at(plan, walk.place) else {
+        unreachable!()
+    };
+    tries::try_entry(entry, left, right)
 }
 
 // Whether a format has other than offset 4 and length 0.
@@ -149,12 +133,7 @@ fn wrong_format(request: Request, offset: PageOffset, len: u32) -> bool
 {
     match request {
         Request::Save => false,
-        Request::Format => {
-            if offset.0 != Walk::MANAGEMENT_SIZE {
-                return true;
-            }
-            len != 0
-        }
+        Request::Format => offset.0 != Walk::MANAGEMENT_SIZE || len != 0,
     }
 }
 
@@ -163,19 +142,13 @@ fn wrong_format(request: Request, offset: PageOffset, len: u32) -> bool
 fn wrong_numbers(walk: Walk, left: usize, right: usize, data: usize) -> bool
     ensures { result ≡ wrong_numbers walk left right «data» }
 {
-    let offset = walk.offset;
     let len = walk.len as usize;
-    match check_numbers(left, right, offset, len) {
-        Check::Refused(_) => true,
-        Check::Legal => {
-            if left != walk.page as usize {
-                return true;
-            }
-            if data != len {
-                return true;
-            }
-            let request = walk.request;
-            wrong_format(request, offset, walk.len)
+    match check_numbers(left, right, walk.offset, len) {
+        Err(_) => true,
+        Ok(()) => {
+            left != walk.page as usize
+                || data != len
+                || wrong_format(walk.request, walk.offset, walk.len)
         }
     }
 }
@@ -188,44 +161,49 @@ impl Walk {
 
     pub const MAX_PAGE: usize = pages::MAX_PAGE;
 
+    // The list that a walk steps through.
+    pub fn plan(self) -> Plan
+        ensures { result ≡ (record {
+          request = self.request;
+          start = self.start;
+          erased = self.erased;
+          page = self.page;
+        }) }
+    {
+        Plan {
+            request: self.request,
+            start: self.start,
+            erased: self.erased,
+            page: self.page,
+        }
+    }
+
     // How many steps a walk has.
     pub fn total(self) -> u32
         ensures { result ≡ step_count self.request self.start self.erased self.page }
     {
-        let request = self.request;
-        let start = self.start;
-        let page = self.page;
-        plans::step_count(request, start, self.erased, page)
+        self.plan().step_count()
     }
 
     // Begins a save of the data at a page offset: gives the walk at its first place, or says which
     // of 1 to 4 refuses it. No page byte is changed, and none is looked at before the numbers are
     // found right. Each page is looked through at most once, and only where erased-or-not counts.
-    pub fn save(left: &[u8], right: &[u8], offset: PageOffset, data: &[u8]) -> Begun
+    pub fn save(left: &[u8], right: &[u8], offset: PageOffset, data: &[u8]) -> Result<Walk, Refusal>
         ensures { beginning_in result
             ≡ begin_save left.now right.now offset «data».now }
     {
         let size = data.len();
-        match check_numbers(left.len(), right.len(), offset, size) {
-            Check::Refused(why) => Begun::Refused(why),
-            Check::Legal => {
-                let len = size as u32;
-                Begun::On(first_walk(Request::Save, left, right, offset, len))
-            }
-        }
+        check_numbers(left.len(), right.len(), offset, size)?;
+        Ok(first_walk(Request::Save, left, right, offset, size as u32))
     }
 
     // Begins a format, in the same way. Only the pages' lengths can refuse it.
-    pub fn format(left: &[u8], right: &[u8]) -> Begun
+    pub fn format(left: &[u8], right: &[u8]) -> Result<Walk, Refusal>
         ensures { beginning_in result ≡ begin_format left.now right.now }
     {
-        match requests::check_lengths(left.len(), right.len(), Walk::MIN_PAGE, Walk::MAX_PAGE) {
-            Check::Refused(why) => Begun::Refused(why),
-            Check::Legal => {
-                let offset = PageOffset(Walk::MANAGEMENT_SIZE);
-                Begun::On(first_walk(Request::Format, left, right, offset, 0))
-            }
-        }
+        requests::check_lengths(left.len(), right.len(), Walk::MIN_PAGE, Walk::MAX_PAGE)?;
+        let offset = PageOffset(Walk::MANAGEMENT_SIZE);
+        Ok(first_walk(Request::Format, left, right, offset, 0))
     }
 
     // Makes the one flash step at the walk's place and hands the walk back at the next place. At
@@ -245,9 +223,7 @@ impl Walk {
         if wrong_numbers(self, left.len(), right.len(), data.len()) {
             return self.answered(Progress::Unfit);
         }
-        let request = self.request;
-        let start = self.start;
-        let total = plans::step_count(request, start, self.erased, self.page);
+        let total = self.total();
         if total < self.place {
             return self.answered(Progress::Unfit);
         }
@@ -255,16 +231,15 @@ impl Walk {
             return self.answered(Progress::Ended);
         }
         match try_step(self, left, right, data) {
-            Programmed::Made => self.advanced().answered(Progress::Made),
-            Programmed::Unfit => self.answered(Progress::Unfit),
+            Ok(()) => self.advanced().answered(Progress::Made),
+            Err(StepError::Unfit) => self.answered(Progress::Unfit),
         }
     }
 
     // Steps the walk on until a step isn't made, at most so many times. The data is that of the save,
     // and empty for a format; a refused step and one at the end change nothing. Only the place moves,
-    // so only that is carried from step to step, and the walk is put together from its fields: copied
-    // whole, it would be loaded in one piece right after its small fields were stored, for which the
-    // processor waits.
+    // so only that is carried from step to step: a walk carried whole would be loaded in one piece right
+    // after its small fields were stored, for which the processor waits.
     pub fn run(self, most: u32, left: &mut [u8], right: &mut [u8], data: &[u8]) -> Ran
         ensures { ◌≡◌ {A = Course}
             (record {
@@ -280,39 +255,21 @@ impl Walk {
             «data».now) }
     {
         let mut place = self.place;
-        let mut steps: u32 = 0;
-        while steps < most {
-            let stepped = self.at(place).step(left, right, data);
-            let next = stepped.walk;
-            let progress = stepped.progress;
-            match progress {
-                Progress::Made => {
-                    place = next.place;
-                    steps += 1;
-                }
-                Progress::Ended => return next.ran(steps, Progress::Ended),
-                Progress::Unfit => return next.ran(steps, Progress::Unfit),
+        for steps in 0..most {
+            let Stepped { walk, progress } = self.at(place).step(left, right, data);
+            if progress != Progress::Made {
+                return walk.ran(steps, progress);
             }
+            place = walk.place;
         }
-        self.at(place).ran(steps, Progress::Made)
+        self.at(place).ran(most, Progress::Made)
     }
 
     // The walk at a place of its list.
     fn at(self, place: u32) -> Walk
         ensures { result ≡ at_place self place }
     {
-        let request = self.request;
-        let start = self.start;
-        let offset = self.offset;
-        Walk {
-            request: request,
-            start: start,
-            erased: self.erased,
-            page: self.page,
-            offset: offset,
-            len: self.len,
-            place: place,
-        }
+        Walk { place, ..self }
     }
 
     // The walk as far as it was stepped.
@@ -321,8 +278,8 @@ impl Walk {
     {
         Ran {
             walk: self,
-            steps: steps,
-            progress: progress,
+            steps,
+            progress,
         }
     }
 
@@ -332,7 +289,7 @@ impl Walk {
     {
         Stepped {
             walk: self,
-            progress: progress,
+            progress,
         }
     }
 
@@ -341,8 +298,6 @@ impl Walk {
         requires { self.place < 4294967295 }
         ensures { result ≡ advanced self }
     {
-        let mut next = self;
-        next.place = next.place + 1;
-        next
+        self.at(self.place + 1)
     }
 }

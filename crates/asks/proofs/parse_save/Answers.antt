@@ -1,16 +1,15 @@
 -- `asks::parse_save` meets its contract. Assumes nothing.
-use Rattle.digits.specs.declared.Number.TheVariants as N
-use Rattle.asks.proofs.Laws.{number_told, save_bad, save_good}
+use Rattle.std.proofs.Common.{Ok, Err, ◌∙◌}
+use Rattle.std.proofs.lemmas.Result.{err_from_is_err_and}
+use Rattle.asks.proofs.Laws.{save_is}
 use Rattle.asks.proofs.parse_save.Goals as goal
 
-pub returns-in-Wrong : goal.returns-in-Wrong
-returns-in-Wrong c =
-    save_bad c.args.line.now c.in-Wrong.fault
-    (number_told c.args.line.now c.word.result.now c.parse_number.result (N.Wrong c.in-Wrong.fault) 1
-    c.word.ensures c.parse_number.ensures c.in-Wrong.is)
+pub returns-in_err-offset : goal.returns-in_err-offset
+returns-in_err-offset c =
+    let p = err_from_is_err_and c.from_residual.result c.from_residual.ensures.1 in
+    rw (p.1, p.2) (save_is c.args.line.now c.number.result (Err _) c.number.ensures c.in_err-offset.was)
 
-pub returns-in-Value : goal.returns-in-Value
-returns-in-Value c =
-    save_good c.args.line.now c.in-Value.offset c.with_bytes.result
-    (number_told c.args.line.now c.word.result.now c.parse_number.result (N.Value c.in-Value.offset) 1
-    c.word.ensures c.parse_number.ensures c.in-Value.is) c.with_bytes.ensures
+pub returns : goal.returns
+returns c =
+    c.with_bytes.ensures
+    ∙ save_is c.args.line.now c.number.result (Ok c.in_ok-offset.offset) c.number.ensures c.in_ok-offset.was

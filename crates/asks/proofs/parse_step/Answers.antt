@@ -1,41 +1,43 @@
 -- `asks::parse_step` meets its contract. Assumes nothing.
-use mathlib.Core.Bool.{true, false}
-use Rattle.asks.specs.Asks.{with_word, all_word}
-use Rattle.texts.proofs.Laws.{same_is}
-use Rattle.asks.proofs.Laws.{step_one, step_with_lem, step_all, step_bad, step_times}
+use Rattle.std.proofs.Common.{true, false, Ok, Err, refl, sym, ◌∙◌}
+use Rattle.std.proofs.lemmas.Result.{err_from_is_err_and}
+use Rattle.asks.proofs.Laws.{told, step_is}
 use Rattle.asks.proofs.parse_step.Goals as goal
 
-pub returns-then-count-eq0 : goal.returns-then-count-eq0
-returns-then-count-eq0 c =
-    step_one c.args.line.now c.word-count.result.now c.word-count.ensures c.if-count-eq0.true
+pub returns-then-is_empty : goal.returns-then-is_empty
+returns-then-is_empty c =
+    step_is c.args.line.now c.word-count.result.now true _ _ _ _ c.word-count.ensures (sym c.if-is_empty.true ∙ c.is_empty.ensures) refl refl refl refl
 
-pub returns-then-same : goal.returns-then-same
-returns-then-same c =
-    step_with_lem c.args.line.now c.word-count.result.now c.word-count.ensures c.with_bytes.result c.if-count-eq0.false
-    (same_is c.word-count.result.now with_word c.same.result true c.same.ensures c.if-same.true)
+pub returns-then-eq : goal.returns-then-eq
+returns-then-eq c =
     c.with_bytes.ensures
+    ∙ step_is c.args.line.now c.word-count.result.now false true _ _ _ c.word-count.ensures
+    (sym c.if-is_empty.false ∙ c.is_empty.ensures)
+    (told _ _ _ c.eq.result true c.eq.ensures c.as_slice.ensures c.if-eq.true) refl refl refl
 
-pub returns-then-same-2 : goal.returns-then-same-2
-returns-then-same-2 c =
-    step_all c.args.line.now c.word-count.result.now c.word-count.ensures c.ended.result c.if-count-eq0.false
-    (same_is c.word-count.result.now with_word c.same.result false c.same.ensures c.if-same.false)
-    (same_is c.word-count.result.now all_word c.same-2.result true c.same-2.ensures c.if-same-2.true)
+pub returns-then-eq-2 : goal.returns-then-eq-2
+returns-then-eq-2 c =
     c.ended.ensures
+    ∙ step_is c.args.line.now c.word-count.result.now false false true _ _ c.word-count.ensures
+    (sym c.if-is_empty.false ∙ c.is_empty.ensures)
+    (told _ _ _ c.eq.result false c.eq.ensures c.as_slice.ensures c.if-eq.false)
+    (told _ _ _ c.eq-else-eq.result true c.eq-else-eq.ensures c.as_slice-else-eq.ensures c.if-eq-2.true) refl refl
 
-pub returns-in-Wrong : goal.returns-in-Wrong
-returns-in-Wrong c =
-    step_bad c.args.line.now c.word-count.result.now c.word-count.ensures c.parse_number.result
-    c.in-Wrong.fault c.if-count-eq0.false
-    (same_is c.word-count.result.now with_word c.same.result false c.same.ensures c.if-same.false)
-    (same_is c.word-count.result.now all_word c.same-2.result false c.same-2.ensures c.if-same-2.false)
-    c.parse_number.ensures
-    c.in-Wrong.is
+pub returns-in_err-number : goal.returns-in_err-number
+returns-in_err-number c =
+    let p = err_from_is_err_and c.from_residual.result c.from_residual.ensures.1 in
+    rw (p.1, p.2)
+    (step_is c.args.line.now c.word-count.result.now false false false c.number.result (Err _) c.word-count.ensures
+    (sym c.if-is_empty.false ∙ c.is_empty.ensures)
+    (told _ _ _ c.eq.result false c.eq.ensures c.as_slice.ensures c.if-eq.false)
+    (told _ _ _ c.eq-else-eq.result false c.eq-else-eq.ensures c.as_slice-else-eq.ensures c.if-eq-2.false)
+    c.number.ensures c.in_err-number.was)
 
-pub returns-in-Value : goal.returns-in-Value
-returns-in-Value c =
-    step_times c.args.line.now c.word-count.result.now c.word-count.ensures c.parse_number.result
-    c.in-Value.steps c.ended-in-Value.result c.if-count-eq0.false
-    (same_is c.word-count.result.now with_word c.same.result false c.same.ensures c.if-same.false)
-    (same_is c.word-count.result.now all_word c.same-2.result false c.same-2.ensures c.if-same-2.false)
-    c.parse_number.ensures
-    c.in-Value.is c.ended-in-Value.ensures
+pub returns-in_ok-number : goal.returns-in_ok-number
+returns-in_ok-number c =
+    c.ended-else-eq-2.ensures
+    ∙ step_is c.args.line.now c.word-count.result.now false false false c.number.result (Ok _) c.word-count.ensures
+    (sym c.if-is_empty.false ∙ c.is_empty.ensures)
+    (told _ _ _ c.eq.result false c.eq.ensures c.as_slice.ensures c.if-eq.false)
+    (told _ _ _ c.eq-else-eq.result false c.eq-else-eq.ensures c.as_slice-else-eq.ensures c.if-eq-2.false)
+    c.number.ensures c.in_ok-number.was

@@ -3,4 +3,4 @@ use Rattle.bench.proofs.kept_in.Goals as goal
 
 pub returns : goal.returns
 returns c =
-    λ i. record { number = 0; line = c.line-line.ensures i; erased = c.args.walk.erased }
+    λ i. record { number = 0; line = c.line.ensures i; erased = c.args.walk.erased }

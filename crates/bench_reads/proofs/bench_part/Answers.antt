@@ -3,4 +3,4 @@ use Rattle.bench_reads.proofs.Laws.{part_seen}
 use Rattle.bench_reads.proofs.bench_part.Goals as goal
 
 pub returns : goal.returns
-returns c = part_seen _ _ _ c.first_of-first.ensures c.read-part.ensures
+returns c = part_seen _ _ _ c.first_of.ensures c.read-part.ensures

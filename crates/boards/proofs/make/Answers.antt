@@ -47,9 +47,9 @@ returns-in-ReadInto c =
     of_call c.args.call (ReadInto _) c.answered-in-ReadInto.result _ b c.args.held.now c.args.«data».now _ _ c.args.out.now _
     c.in-ReadInto.is
     c.answered-in-ReadInto.ensures
-    (into_made _ _ c.number.result c.args.hand c.args.held.now c.args.«data».now c.args.left.now
+    (into_made _ _ c.number_of.result c.args.hand c.args.held.now c.args.«data».now c.args.left.now
     c.args.right.now c.args.out.now _
-    c.number.ensures c.read_into-reading.ensures)
+    c.number_of.ensures c.read_into-reading.ensures)
 
 pub returns-in-Cut : goal.returns-in-Cut
 returns-in-Cut c =

@@ -2,23 +2,22 @@
 use Prim.Native.Nat.{ℕ}
 use mathlib.Core.Path.{sym, ap, ◌∙◌}
 use mathlib.Core.Bool.{Bool, cond}
-use borrow.Author.Tests.{eq-eqb, ne_eqb}
+use borrow.Author.Tests.{ne_eqb}
+use Rattle.flash.proofs.Laws.{told}
+use Rattle.reads.specs.Reads.{number_in, error_number}
+use Rattle.reads.proofs.Laws.{error_never}
 use Rattle.boards.specs.declared.Answer as A
 use Rattle.boards.specs.Boards.{read_answer}
 use Rattle.boards.proofs.read.Goals as goal
 
-pub returns-then-number-eq0 : goal.returns-then-number-eq0
-returns-then-number-eq0 c =
-    sym (ap (λ (t : Bool). cond t (A.TheVariants.Part c.args.offset c.args.len) (A.TheVariants.Number
-    c.number-number.result))
-    (eq-eqb c.number-number.result 0 c.if-number-eq0.true))
-    ∙ ap (λ (n : ℕ). read_answer n c.args.offset c.args.len) (c.number-number.ensures
-    ∙ c.check_read.ensures)
+pub returns-in-Ok : goal.returns-in-Ok
+returns-in-Ok c =
+    ap (λ (n : ℕ). read_answer n c.args.offset c.args.len) (told number_in c.in-Ok.is c.check_read.ensures)
 
-pub returns : goal.returns
-returns c =
-    sym (ap (λ (t : Bool). cond t (A.TheVariants.Part c.args.offset c.args.len) (A.TheVariants.Number
-    c.number-number.result))
-    (ne_eqb c.number-number.result 0 c.if-number-eq0.false))
-    ∙ ap (λ (n : ℕ). read_answer n c.args.offset c.args.len) (c.number-number.ensures
-    ∙ c.check_read.ensures)
+pub returns-in-Err : goal.returns-in-Err
+returns-in-Err c =
+    (λ i. A.TheVariants.Number (c.number.ensures i))
+    ∙ sym (ap (λ (t : Bool). cond t (A.TheVariants.Part c.args.offset c.args.len)
+    (A.TheVariants.Number (error_number c.in-Err.error)))
+    (ne_eqb (error_number c.in-Err.error) 0 (error_never c.in-Err.error)))
+    ∙ ap (λ (n : ℕ). read_answer n c.args.offset c.args.len) (told number_in c.in-Err.is c.check_read.ensures)

@@ -1,11 +1,12 @@
--- `cuts::find_last` meets its contract. The loop's invariant: the last save so far, with those that are still to come.
--- Assumes nothing.
-use Rattle.cuts.proofs.Laws.{Kept}
+-- the lengths of the pages stay the same, and the last walk so far, with those that are still to come, is the script's
+use Rattle.std.proofs.Common.{◌≡◌, length}
 use Rattle.sessions.proofs.Loop.{leftover}
+use Rattle.cuts.proofs.Laws.{Sought}
 use Rattle.cuts.proofs.find_last.Given as goal
 
-abbrev pub invariant-loop-on : goal.invariant-loop-on
-invariant-loop-on l = Kept l.text l.session l.last l.page l.now_left l.now_right l.kept_left l.kept_right l.left l.right l.on
+abbrev pub invariant-loop-now_left : goal.invariant-loop-now_left
+invariant-loop-now_left l = (length l.now_left ≡ length l.kept_left) × (length l.now_right ≡ length l.kept_right)
+    × Sought l.text l.session l.last l.now_left l.now_right l.kept_left l.kept_right l.left l.right
 
-abbrev pub decreases-loop-on : goal.decreases-loop-on
-decreases-loop-on l = leftover l.text l.session
+abbrev pub decreases-loop-now_left : goal.decreases-loop-now_left
+decreases-loop-now_left l = leftover l.text l.session

@@ -1,16 +1,16 @@
 -- `digits::decode` meets its contract.
--- The loop's invariant: the bytes put so far stand at the start of the buffer, and the rest is as it was.
+-- The loop's invariant: the bytes put so far stand at the start of the buffer, the rest is as it was, and
+-- what is left of the digits makes the other bytes.
 -- Assumes nothing.
-use Prim.Native.Nat.{◌-◌, ◌≤◌}
-use mathlib.Core.Path.{◌≡◌}
-use mathlib.Core.List.{◌++◌}
-use lib.ListN.{length, take, drop}
-use Rattle.digits.specs.Digits.{bytes_of}
+use Rattle.std.proofs.Common.{◌≡◌}
+use Rattle.std.specs.Iterator.Adapters.{enumerate_source, enumerate_count}
+use Rattle.std.specs.Slice.Iter.{chunks_exact_rest, chunks_exact_size}
+use Rattle.digits.proofs.Laws.{PutSoFar}
 use Rattle.digits.proofs.decode.Given as goal
 
 abbrev pub invariant-loop-i : goal.invariant-loop-i
-invariant-loop-i l = (l.i ≤ l.count)
-    × ((length l.into ≡ length l.initial.into) × (l.into ≡ take l.i (bytes_of l.digits) ++ drop l.i l.initial.into))
-
-abbrev pub decreases-loop-i : goal.decreases-loop-i
-decreases-loop-i l = l.count - l.i
+invariant-loop-i l =
+    record {
+      pairs : chunks_exact_size (enumerate_source l.i-iterator) ≡ 2;
+      so_far : PutSoFar l.digits (chunks_exact_rest (enumerate_source l.i-iterator)) l.initial.into l.into (enumerate_count l.i-iterator);
+    }

@@ -1,37 +1,44 @@
--- `digits::parse_number` meets its contract.
--- The loop's invariant: the number read from here on is the number of all.
--- Assumes nothing.
-use native.Mathlib.Omega.{arith}
-use Rattle.digits.specs.Digits.{number_of}
-use Rattle.digits.proofs.Laws.{number_none, number_some, number_bad, number_on, number_value, number_past}
+-- `digits::parse_number` meets its contract. Assumes nothing.
+use Rattle.std.proofs.Common.{◌≡◌, get_or, rules, tests, arith, ap, sym, ◌∙◌, ℕ, Option, Some, None}
+use Rattle.std.proofs.lemmas.Grind.{common_steps}
+use Rattle.digits.proofs.Laws.{number_none, number_some, number_bad, number_on, number_end, grown, grown_is, grown_within, decimal_of, decimal_is}
+use Rattle.std.specs.Prelude.{ok_or}
+use Rattle.digits.specs.declared.Fault.TheVariants.{NotNumber}
+use Rattle.std.proofs.lemmas.Result.{err_from_is_err_and}
 use Rattle.digits.proofs.parse_number.Goals as goal
 
-pub returns-then-word-eq0 : goal.returns-then-word-eq0
-returns-then-word-eq0 c = number_none c.args.word.now c.if-word-eq0.true
+pub returns-then-is_empty : goal.returns-then-is_empty
+returns-then-is_empty c = number_none c.args.word.now (search rules)
 
-pub loop-i-init : goal.loop-i-init
-loop-i-init c = (omega arith, (omega arith, number_some c.args.word.now c.if-word-eq0.false))
+pub loop-byte-init : goal.loop-byte-init
+loop-byte-init c = record { within = omega arith; same = number_some c.args.word.now (λ h. grind (arith, common_steps, h)) }
 
-pub returns-then-next-gt9 : goal.returns-then-next-gt9
-returns-then-next-gt9 c =
-    number_bad c.args.word.now c.loop-i.i c.loop-i.value c.digit-next.result (number_of c.args.word.now) c.loop-i-test.true
-    c.digit-next.ensures.value c.if-next-gt9.true c.loop-i.invariant.1.1
+pub loop-byte-preserved : goal.loop-byte-preserved
+loop-byte-preserved c =
+    let e : c.filter.result ≡ decimal_of (get_or c.args.word.now c.loop-byte.byte-index 0) =
+    search (rules, tests, decimal_is) in
+    let d : c.filter.result ≡ Some c.in_ok-next.next = grind arith in
+    let f : c.and_then-number.result ≡ grown c.loop-byte.number c.in_ok-next.next = search (rules, grown_is) in
+    record {
+      within = rw f (grown_within c.loop-byte.number c.in_ok-next.next);
+      same =
+          rw f
+          (number_on c.args.word.now c.loop-byte.byte-index c.in_ok-next.next c.loop-byte.number _ c.loop-byte-test.true
+          (sym e ∙ d) c.loop-byte.invariant.same);
+    }
 
-pub loop-i-preserved : goal.loop-i-preserved
-loop-i-preserved c = (
-  omega arith,
-  (
-    c.appended-value.ensures.upper_bound,
-    number_on c.args.word.now c.loop-i.i c.loop-i.value c.digit-next.result c.appended-value.result (number_of c.args.word.now)
-        c.loop-i-test.true c.digit-next.ensures.value c.if-next-gt9.false
-        c.appended-value.ensures.value c.loop-i.invariant.1.1,
-  ),
-)
-
-pub returns-then-value-lt-PAST_BITS : goal.returns-then-value-lt-PAST_BITS
-returns-then-value-lt-PAST_BITS c =
-    number_value c.args.word.now c.loop-i.i c.loop-i.value (number_of c.args.word.now) c.loop-i-test.false c.if-value-lt-PAST_BITS.true c.loop-i.invariant.1.1
+pub returns-in_err-next : goal.returns-in_err-next
+returns-in_err-next c =
+    let e : c.filter.result ≡ decimal_of (get_or c.args.word.now c.loop-byte.byte-index 0) =
+    search (rules, tests, decimal_is) in
+    let d : c.filter.result ≡ None = grind arith in
+    let p = err_from_is_err_and c.from_residual.result c.from_residual.ensures.1 in
+    rw (p.1, p.2)
+    (sym c.in_err-next.was
+    ∙ c.ok_or.ensures.value
+    ∙ ap (λ (o : Option ℕ). ok_or o NotNumber) d
+    ∙ number_bad c.args.word.now c.loop-byte.byte-index c.loop-byte.number _ c.loop-byte-test.true (sym e ∙ d)
+    c.loop-byte.invariant.same)
 
 pub returns : goal.returns
-returns c =
-    number_past c.args.word.now c.loop-i.i c.loop-i.value (number_of c.args.word.now) c.loop-i-test.false c.if-value-lt-PAST_BITS.false c.loop-i.invariant.1.1
+returns c = c.ok_or-2.ensures.value ∙ number_end c.args.word.now c.loop-byte.byte-index c.loop-byte.number _ c.loop-byte-test.false c.loop-byte.invariant.within c.loop-byte.invariant.same

@@ -1,14 +1,15 @@
 -- `digits::parse_number` meets its contract.
--- The loop's invariant: the number read from here on is the number of all.
+-- The loop's invariant: what is read so far and what is left make the number of all.
 -- Assumes nothing.
-use Prim.Native.Nat.{◌-◌, ◌≤◌}
-use mathlib.Core.Path.{◌≡◌}
-use lib.ListN.{length, drop}
-use Rattle.digits.specs.Digits.{number_from, number_of}
+use Rattle.std.proofs.Common.{◌≡◌, ◌<◌, drop}
+use Rattle.std.specs.Prelude.{IfSome}
+use Rattle.digits.specs.Digits.{number_of}
+use Rattle.digits.proofs.Laws.{number_on_from}
 use Rattle.digits.proofs.parse_number.Given as goal
 
-abbrev pub invariant-loop-i : goal.invariant-loop-i
-invariant-loop-i l = (l.i ≤ length l.word) × ((l.value ≤ 4294967296) × (number_from l.value (drop l.i l.word) ≡ number_of l.word))
-
-abbrev pub decreases-loop-i : goal.decreases-loop-i
-decreases-loop-i l = length l.word - l.i
+abbrev pub invariant-loop-byte : goal.invariant-loop-byte
+invariant-loop-byte l =
+    record {
+      within : IfSome l.number (λ v. v < 4294967296);
+      same : number_on_from l.number (drop l.byte-index l.word) ≡ number_of l.word;
+    }

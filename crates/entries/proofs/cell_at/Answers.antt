@@ -7,11 +7,11 @@ pub returns-in-Save : goal.returns-in-Save
 returns-in-Save c =
     λ new size.
     c.save_cell.ensures
-    ∙ cell_save c.args.request c.args.start c.args.erased c.args.page c.args.place c.in-Save.is
-    ∙ list_cell c.args.request c.args.start c.args.erased c.args.page c.args.place new size
+    ∙ cell_save c.args.plan.request c.args.plan.start c.args.plan.erased c.args.plan.page c.args.place c.in-Save.is
+    ∙ list_cell c.args.plan.request c.args.plan.start c.args.plan.erased c.args.plan.page c.args.place new size
 
 pub returns-in-Format : goal.returns-in-Format
 returns-in-Format c =
     λ new size.
-    cell_format c.args.request c.args.start c.args.erased c.args.page c.args.place c.in-Format.is
-    ∙ list_cell c.args.request c.args.start c.args.erased c.args.page c.args.place new size
+    cell_format c.args.plan.request c.args.plan.start c.args.plan.erased c.args.plan.page c.args.place c.in-Format.is
+    ∙ list_cell c.args.plan.request c.args.plan.start c.args.plan.erased c.args.plan.page c.args.place new size

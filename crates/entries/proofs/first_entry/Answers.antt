@@ -3,4 +3,4 @@ use Rattle.plans.proofs.Laws.{head_entry}
 use Rattle.entries.proofs.first_entry.Goals as goal
 
 pub returns : goal.returns
-returns c = head_entry c.args.state c.first_step-step.result c.first_step-step.ensures
+returns c = head_entry c.args.state c.first_step.result c.first_step.ensures

@@ -5,8 +5,7 @@ use Rattle.plans.proofs.Laws.{format_first, format_later}
 use Rattle.entries.proofs.format_entry.Goals as goal
 
 pub returns-then-place-eq0 : goal.returns-then-place-eq0
-returns-then-place-eq0 c = format_first c.args.start c.args.place (omega arith)
+returns-then-place-eq0 c = c.marking.ensures ∙ format_first c.args.start c.args.place (omega arith)
 
-pub returns : goal.returns
-returns c =
-    c.erase_entry.ensures ∙ format_later c.args.start c.args.place (omega arith)
+pub returns-else-place-eq0 : goal.returns-else-place-eq0
+returns-else-place-eq0 c = c.erase_entry.ensures ∙ format_later c.args.start c.args.place (omega arith)

@@ -1,20 +1,23 @@
--- `flash::blocks_erased` meets its contract. The loop's invariant: the blocks left lie in the page, and the bytes
--- passed are FF, so that the page is erased exactly if those from `at` on are. Assumes nothing.
-use mathlib.Core.Path.{refl, ◌∙◌}
+-- `flash::blocks_erased` meets its contract: the page is erased exactly if the blocks and the rest are. Assumes nothing.
+use mathlib.Core.Path.{◌∙◌}
 use borrow.Author.Rules.{rules}
-use Rattle.flash.proofs.Laws.{set_passed, unset_used, not_used}
+use borrow.Author.Tests.{tests}
+use Rattle.std.proofs.lemmas.Iterator.{YieldsList-from_slice}
+use Rattle.std.proofs.lemmas.Iterator.Search.{all_from_yields_List}
+use Rattle.flash.specs.Flash.{is_erased}
+use Rattle.flash.proofs.Laws.{chunks_passed}
 use Rattle.flash.proofs.blocks_erased.Goals as goal
 
-pub loop-left-init : goal.loop-left-init
-loop-left-init c = (search rules, refl)
+pub returns-then-all : goal.returns-then-all
+returns-then-all c =
+    c.eights_erased.ensures
+    ∙ chunks_passed 64 c.args.page.now _ c.as_chunks.result.0.now c.all.result _ c.as_chunks.ensures.front c.as_chunks.ensures.back
+    (all_from_yields_List is_erased _ _ c.all.result c.all.ensures.ran (YieldsList-from_slice c.as_chunks.result.0.now cc)
+    (λ x b q k. search (rules, tests))) c.if-all.true
 
-pub returns-then-block_at : goal.returns-then-block_at
-returns-then-block_at c =
-    unset_used _ _ _ _ c.if-block_at.true (c.loop-left.invariant.1 ∙ c.block_at.ensures)
-
-pub loop-left-preserved : goal.loop-left-preserved
-loop-left-preserved c =
-    (search rules, set_passed _ _ _ _ c.if-block_at.false (c.loop-left.invariant.1 ∙ c.block_at.ensures))
-
-pub returns : goal.returns
-returns c = not_used _ _ _ c.loop-left.invariant.1 c.used_from.ensures
+pub returns-else-all : goal.returns-else-all
+returns-else-all c =
+    c.if-all.false
+    ∙ chunks_passed 64 c.args.page.now _ c.as_chunks.result.0.now c.all.result _ c.as_chunks.ensures.front c.as_chunks.ensures.back
+    (all_from_yields_List is_erased _ _ c.all.result c.all.ensures.ran (YieldsList-from_slice c.as_chunks.result.0.now cc)
+    (λ x b q k. search (rules, tests))) c.if-all.false

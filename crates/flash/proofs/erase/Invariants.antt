@@ -1,13 +1,9 @@
--- `flash::erase` meets its contract. The loop's invariant: the bytes before i are FF, the others as they were.
+-- `flash::erase` meets its contract. The loop's invariant: the bytes passed are FF, the others as they were.
 -- Assumes nothing.
-use Prim.Native.Nat.{◌≤◌, ◌-◌}
 use mathlib.Core.Path.{◌≡◌}
 use mathlib.Core.List.{◌++◌}
-use lib.ListN.{length, drop, replicate}
+use lib.ListN.{drop, replicate}
 use Rattle.flash.proofs.erase.Given as goal
 
-abbrev pub invariant-loop-i : goal.invariant-loop-i
-invariant-loop-i l = (l.i ≤ length l.initial.page) × ((length l.page ≡ length l.initial.page) × (l.page ≡ replicate l.i 255 ++ drop l.i l.initial.page))
-
-abbrev pub decreases-loop-i : goal.decreases-loop-i
-decreases-loop-i l = length l.page - l.i
+abbrev pub invariant-loop-byte : goal.invariant-loop-byte
+invariant-loop-byte l = l.page ≡ replicate l.byte-index 255 ++ drop l.byte-index l.initial.page

@@ -1,21 +1,13 @@
 -- `lines::is_clean` meets its contract: the live side says which line it is. Assumes nothing.
-use Rattle.pages.specs.declared.Side.TheVariants.{Left, Right}
-use Rattle.plans.proofs.Laws.{on_side_lem}
-use Rattle.lines.proofs.Words.{clean_none, clean_side}
+use Rattle.std.proofs.Common.{ap, ◌∙◌, ◌&&◌, eqb}
+use Rattle.pages.specs.declared.State.{State}
+use Rattle.pages.specs.Pages.{word_of, row_of}
+use Rattle.lines.proofs.Words.{clean_side}
 use Rattle.lines.proofs.is_clean.Goals as goal
 
-pub returns-in-Nowhere : goal.returns-in-Nowhere
-returns-in-Nowhere c =
-    clean_none _ c.args.left.now c.args.right.now _ c.in-Nowhere.is c.is_none.ensures
-
-pub returns-in-Left : goal.returns-in-Left
-returns-in-Left c =
-    clean_side _ Left c.args.left.now c.args.right.now _
-    (on_side_lem _ c.in-On.side Left c.in-On.is c.in-Left.is)
-    c.has_words.ensures
-
-pub returns-in-Right : goal.returns-in-Right
-returns-in-Right c =
-    clean_side _ Right c.args.left.now c.args.right.now _
-    (on_side_lem _ c.in-On.side Right c.in-On.is c.in-Right.is)
-    c.has_words-in-Right.ensures
+pub returns-in-Some : goal.returns-in-Some
+returns-in-Some c =
+    clean_side _ c.in-Some.side c.args.left.now c.args.right.now _ c.in-Some.is
+    (c.has_words.ensures
+    ∙ ap (λ (s : State). eqb (word_of c.args.left.now) (row_of s).0 && eqb (word_of c.args.right.now) (row_of s).1)
+    c.pick.ensures)

@@ -1,6 +1,7 @@
 -- `reads::read_into` meets its contract: a refusal keeps the output, number 5 fills it with FF, and a found page is
 -- copied from.
 -- Assumes nothing.
+use Rattle.std.proofs.Common.{rules}
 use native.Mathlib.Omega.{arith}
 use Rattle.flash.proofs.Laws.{told}
 use Rattle.reads.specs.Reads.{found_in}
@@ -11,21 +12,18 @@ pub part-requires : goal.part-requires
 part-requires c =
     omega (
       arith,
-      on_legal _ _ _ _ _ (told found_in c.in-On.is c.locate.ensures),
+      on_legal _ _ _ _ _ (told found_in c.in-Ok.is c.locate.ensures),
     )
 
-pub returns-in-Refused : goal.returns-in-Refused
-returns-in-Refused c =
-    kept _ _ _ _ c.in-Refused.why
-    (told found_in c.in-Refused.is c.locate.ensures)
+pub returns-in-Ok : goal.returns-in-Ok
+returns-in-Ok c =
+    given _ _ _ _ _ _ _
+    (told found_in c.in-Ok.is c.locate.ensures)
+    c.part.ensures c.copy.ensures
 
 pub returns-in-NoLive : goal.returns-in-NoLive
 returns-in-NoLive c =
-    blank _ _ _ _ _ (told found_in c.in-NoLive.is c.locate.ensures)
-    c.erase.ensures
+    blank c.args.left.now c.args.right.now c.args.offset c.args.out.now _ (search rules) c.erase.ensures
 
-pub returns-in-On : goal.returns-in-On
-returns-in-On c =
-    given _ _ _ _ _ _ _
-    (told found_in c.in-On.is c.locate.ensures)
-    c.part.ensures c.copy.ensures
+pub returns-in-Refused : goal.returns-in-Refused
+returns-in-Refused c = kept c.args.left.now c.args.right.now c.args.offset c.args.out.now c.in-Refused.why (search rules)

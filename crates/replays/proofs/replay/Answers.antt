@@ -1,31 +1,29 @@
 -- `replays::replay` meets its contract: demand 3 of a script. Assumes nothing.
-use mathlib.Core.Path.{sym, ap, ◌∙◌}
-use native.Mathlib.Omega.{arith}
-use Rattle.scripts.specs.declared.Verdict.TheVariants.{Malformed, NoRoom}
-use Rattle.scripts.specs.Scripts.{Report, verdict_in}
+use mathlib.Core.Path.{◌≡◌, sym, ap, ◌∙◌}
+use Rattle.std.specs.Prelude.{Result, Ok, Err, IsErrAnd}
+use Rattle.std.proofs.Common.{rules}
+use Rattle.scripts.specs.Scripts.{Report}
+use Rattle.replays.specs.Replays.{report_in}
 use Rattle.replays.proofs.Answered.{bytes_of, replay_done, replay_refused}
 use Rattle.replays.proofs.replay.Goals as goal
 
-pub run-ran-requires : goal.run-ran-requires
-run-ran-requires c =
-    ap (λ (x : Report). x.status) (sym c.check.ensures ∙ ap verdict_in c.in-Whole.is)
+err_is : {T E : Type 0} (r : Result T E) (e : E) → IsErrAnd r (λ x. x ≡ e) → r ≡ Err e
+err_is (Ok x) e h = absurd h
+err_is (Err x) e h = ap Err h
 
-pub returns-in-Malformed : goal.returns-in-Malformed
-returns-in-Malformed c =
-    replay_refused c.args.left.now c.args.right.now c.args.script.now c.args.out.now c.check.result (Malformed _)
-    c.check.ensures
-    c.in-Malformed.is (λ z. absurd (omega arith))
+pub returns-in_err-check : goal.returns-in_err-check
+returns-in_err-check c =
+    (λ i. record {
+      report = report_in (err_is c.from_residual.result _ c.from_residual.ensures.1 i);
+      left = c.args.left.now;
+      right = c.args.right.now;
+      out = c.args.out.now;
+    })
+    ∙ replay_refused c.args.left.now c.args.right.now c.args.script.now c.args.out.now _ (c.in_err-check.ensures {u = tt})
 
-pub returns-in-NoRoom : goal.returns-in-NoRoom
-returns-in-NoRoom c =
-    replay_refused c.args.left.now c.args.right.now c.args.script.now c.args.out.now c.check.result (NoRoom _)
-    c.check.ensures
-    c.in-NoRoom.is (λ z. absurd (omega arith))
-
-pub returns-in-Whole : goal.returns-in-Whole
-returns-in-Whole c =
+pub returns : goal.returns
+returns c =
     replay_done c.args.left.now c.args.right.now c.args.script.now c.args.out.now _ _ _
-    (bytes_of c.args.left.now c.slice_known-1.given)
-    (bytes_of c.args.right.now c.slice_known-2-1.given) (bytes_of c.args.script.now c.shared_slice_known-1.given)
-    (ap (λ (x : Report). x.status) (sym c.check.ensures ∙ ap verdict_in c.in-Whole.is))
-    c.run-ran.ensures
+    (bytes_of c.args.left.now (search rules))
+    (bytes_of c.args.right.now (search rules)) (bytes_of c.args.script.now (search rules))
+    (ap (λ (x : Report). x.status) (sym (c.in_ok-check.ensures {u = tt}))) c.run.ensures

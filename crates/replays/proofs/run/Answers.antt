@@ -1,77 +1,57 @@
 -- `replays::run` meets its contract. The loop's invariant: what lies ahead gives what the whole script gives.
 -- Assumes nothing.
-use mathlib.Core.Path.{refl, ◌∙◌}
+use Rattle.std.specs.Prelude.{Some}
+use Prim.Native.Nat.{ℕ, ◌+◌}
+use mathlib.Core.Path.{sym, ap, ◌∙◌}
 use native.Mathlib.Omega.{arith}
 use lib.ListN.{length}
-use mir.Facts.{Fits-le}
-use Rattle.replays.proofs.Output.{within}
-use Rattle.replays.proofs.Ahead.{run_in, first_ahead, ahead_from, less_ahead, pass, at_end}
+use Rattle.std.specs.Prelude.{option_map}
+use Rattle.model.specs.Board.{powered}
+use Rattle.scripts.specs.Scripts.{item_in, checked}
+use Rattle.replays.specs.Runs.{run_in, running, orders_of}
+use Rattle.replays.proofs.Ahead.{Passed, ahead_from, pass, at_end}
 use Rattle.replays.proofs.run.Goals as goal
+use Rattle.replays.proofs.run.Goals.{After-size-place}
 
-pub empty_hand-hand-requires : goal.empty_hand-hand-requires
-empty_hand-hand-requires c = tt
-
-pub loop-place-init : goal.loop-place-init
-loop-place-init c = (
-  omega arith,
-  refl,
-  refl,
-  refl,
-  first_ahead c.args.script.now c.args.left.now c.args.right.now c.args.out.now c.empty_hand-hand.result
-      c.empty_hand-hand.ensures c.requires,
-)
-
-pub item_at-item-requires : goal.item_at-item-requires
-item_at-item-requires c = tt
-
-pub size-size-requires : goal.size-size-requires
-size-size-requires c = tt
-
-pub run_item-ran-requires : goal.run_item-ran-requires
-run_item-ran-requires c =
+pub make-requires : goal.make-requires
+make-requires c =
     let p =
-    pass c.args.script.now c.loop-place.place (length c.args.out.now) c.size-size.result c.item_at-item.result
-    (run_in c.args.script.now c.loop-place.ran c.loop-place.left c.loop-place.right c.loop-place.out) _ c.loop-place-test.true
-    c.item_at-item.ensures c.size-size.ensures c.loop-place.invariant.4 in
-    (p.nine, within p.has c.loop-place.invariant.3)
+    pass c.args.script.now c.loop-item.place (length c.args.out.now) c.in-Some.item
+    (run_in c.loop-item.ran c.loop-item.left c.loop-item.right c.loop-item.out) _
+    (ap (option_map item_in) (sym c.in-Some.is) ∙ c.item_at.ensures) c.loop-item.invariant.3 in
+    let has = p.has in
+    let n = c.loop-item.invariant.2 in
+    omega arith
+
+-- what lies ahead after the call made
+passed : (c : After-size-place)
+    → Passed c.args.script.now c.loop-item.place (length c.args.out.now) (item_in c.in-Some.item)
+    (run_in c.loop-item.ran c.loop-item.left c.loop-item.right c.loop-item.out)
+    (running (orders_of (checked c.args.script.now (length c.args.out.now)))
+    (record {
+      board = powered c.args.left.now c.args.right.now;
+      output = record { out = c.args.out.now; at = 0 };
+    }))
+passed c =
+    pass _ _ _ c.in-Some.item _ _ (ap (option_map item_in) (sym c.in-Some.is) ∙ c.item_at.ensures) c.loop-item.invariant.3
 
 pub overflow_add-place : goal.overflow_add-place
-overflow_add-place c =
-    let p =
-    pass c.args.script.now c.loop-place.place (length c.args.out.now) c.size-size.result c.item_at-item.result
-    (run_in c.args.script.now c.loop-place.ran c.loop-place.left c.loop-place.right c.loop-place.out) _ c.loop-place-test.true
-    c.item_at-item.ensures c.size-size.ensures c.loop-place.invariant.4 in
-    Fits-le p.inside (record { fits = c.well_formed.1.1.0.0 })
+overflow_add-place c = let inside = (passed c).inside in omega arith
 
-pub loop-place-smaller : goal.loop-place-smaller
-loop-place-smaller c =
-    let p =
-    pass c.args.script.now c.loop-place.place (length c.args.out.now) c.size-size.result c.item_at-item.result
-    (run_in c.args.script.now c.loop-place.ran c.loop-place.left c.loop-place.right c.loop-place.out) _ c.loop-place-test.true
-    c.item_at-item.ensures c.size-size.ensures c.loop-place.invariant.4 in
-    less_ahead (length c.args.script.now) c.loop-place.place c.size-size.result p.inside p.more
+pub loop-item-smaller : goal.loop-item-smaller
+loop-item-smaller c =
+    let inside = (passed c).inside in
+    let more = (passed c).more in
+    omega arith
 
-pub loop-place-preserved : goal.loop-place-preserved
-loop-place-preserved c =
-    let p =
-    pass c.args.script.now c.loop-place.place (length c.args.out.now) c.size-size.result c.item_at-item.result
-    (run_in c.args.script.now c.loop-place.ran c.loop-place.left c.loop-place.right c.loop-place.out) _ c.loop-place-test.true
-    c.item_at-item.ensures c.size-size.ensures c.loop-place.invariant.4 in (
-      p.inside,
-      c.run_item-ran.auto.left ∙ c.loop-place.invariant.1,
-      c.run_item-ran.auto.right ∙ c.loop-place.invariant.2,
-      c.run_item-ran.auto.out ∙ c.loop-place.invariant.3,
-      ahead_from _ _ _ _ _ _ c.run_item-ran.ensures p.onward,
-    )
-
-pub shape_of-left : goal.shape_of-left
-shape_of-left c = c.loop-place.invariant.1
-
-pub shape_of-right : goal.shape_of-right
-shape_of-right c = c.loop-place.invariant.2
-
-pub shape_of-out : goal.shape_of-out
-shape_of-out c = c.loop-place.invariant.3
+pub loop-item-preserved : goal.loop-item-preserved
+loop-item-preserved c = (
+  c.make.auto.left ∙ c.loop-item.invariant.0,
+  c.make.auto.right ∙ c.loop-item.invariant.1,
+  c.make.auto.out ∙ c.loop-item.invariant.2,
+  ahead_from _ _ _ _ _ _ _ (ap (λ (n : ℕ). c.loop-item.place + n) c.size-place.ensures) c.make.ensures (passed c).onward,
+)
 
 pub returns : goal.returns
-returns c = at_end _ _ _ _ _ c.loop-place-test.false c.loop-place.invariant.4
+returns c =
+    at_end _ _ _ _ _ (ap (option_map item_in) (sym c.in_default.is) ∙ c.item_at.ensures) c.loop-item.invariant.3

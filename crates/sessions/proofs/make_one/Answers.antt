@@ -3,24 +3,10 @@ use mathlib.Core.Path.{refl}
 use Rattle.sessions.proofs.Laws.{none_made, some_made, made_one}
 use Rattle.sessions.proofs.make_one.Goals as goal
 
-pub returns-then-turn-ne0 : goal.returns-then-turn-ne0
-returns-then-turn-ne0 c = (
+pub returns-then-turn-eq0 : goal.returns-then-turn-eq0
+returns-then-turn-eq0 c = (
   refl,
-  made_one c.args.text.now c.args.call c.args.place c.args.begins c.args.session c.args.after
-      c.make-turn.result _ c.args.left.now
-      c.args.right.now _ _ c.args.out.now _ _
-      c.requires.0
-      c.requires.1
-      c.make-turn.auto.out
-      c.make-turn.ensures
-      (some_made c.make-turn.result.made
-      c.make-turn.result.answer c.if-turn-ne0.true),
-)
-
-pub returns-else-turn-ne0 : goal.returns-else-turn-ne0
-returns-else-turn-ne0 c = (
-  refl,
-  made_one c.args.text.now c.args.call c.args.place c.args.begins c.args.session c.args.after
+  made_one c.args.text.now c.args.job.call c.args.job.place c.args.job.begins c.args.session c.args.after
       c.make-turn.result _ c.args.left.now
       c.args.right.now _ _ c.args.out.now _ _
       c.requires.0
@@ -28,5 +14,19 @@ returns-else-turn-ne0 c = (
       c.make-turn.auto.out
       c.make-turn.ensures
       (none_made c.make-turn.result.made
-      c.make-turn.result.answer c.if-turn-ne0.false),
+      c.make-turn.result.answer c.if-turn-eq0.true),
+)
+
+pub returns-else-turn-eq0 : goal.returns-else-turn-eq0
+returns-else-turn-eq0 c = (
+  refl,
+  made_one c.args.text.now c.args.job.call c.args.job.place c.args.job.begins c.args.session c.args.after
+      c.make-turn.result _ c.args.left.now
+      c.args.right.now _ _ c.args.out.now _ _
+      c.requires.0
+      c.requires.1
+      c.make-turn.auto.out
+      c.make-turn.ensures
+      (some_made c.make-turn.result.made
+      c.make-turn.result.answer c.if-turn-eq0.false),
 )

@@ -1,14 +1,16 @@
 -- `texts::line_at` meets its contract. Assumes nothing.
-use Rattle.texts.proofs.Laws.{no_line, line_is}
+use Rattle.std.proofs.Common.{List, ℕ, ap, take, ◌∙◌}
+use Rattle.texts.specs.Texts.{before_first, is, trimmed, without_comment}
+use Rattle.texts.proofs.Laws.{found_or, line_is}
 use Rattle.texts.proofs.line_at.Goals as goal
-
-pub returns-then-size-from : goal.returns-then-size-from
-returns-then-size-from c =
-    no_line c.args.text.now c.args.from c.if-size-from.true
 
 pub returns : goal.returns
 returns c =
-    line_is c.args.text.now c.without_comment-line.result.now c.args.from
-    c.before-end.result c.trimmed-used.result c.run-start.result
-    c.before-end.ensures.value c.without_comment-line.ensures c.trimmed-used.ensures.value
-    c.run-start.ensures.value
+    let rest = c.rest_at-rest.ensures in
+    line_is c.args.text.now c.trimmed-words.result.now c.args.from c.unwrap_or-end.result c.blanks.result
+    (c.unwrap_or-end.ensures ∙ found_or (is 10) c.rest_at-rest.result.now c.find.result c.find.ensures
+    ∙ ap (before_first (is 10)) rest)
+    (c.trimmed-words.ensures
+    ∙ ap trimmed
+    (c.without_comment.ensures ∙ ap (λ (s : List ℕ). without_comment (take c.unwrap_or-end.result s)) rest))
+    c.blanks.ensures.value

@@ -6,9 +6,9 @@ pub returns-then-left-eq0 : goal.returns-then-left-eq0
 returns-then-left-eq0 c =
     line_planned c.args.text.now c.args.at c.args.began c.args.left c.args.room c.next_line.result
     c.line_at.result.now
-    c.parse-call.result c.line_plan.result c.if-left-eq0.true
-    c.line_at.ensures c.parse-call.ensures c.next_line.ensures.value
-    c.line_plan.ensures
+    c.parse-asked.result c.line_next.result c.if-left-eq0.true
+    c.line_at.ensures c.parse-asked.ensures c.next_line.ensures.value
+    c.line_next.ensures
 
 pub returns : goal.returns
 returns c =

@@ -1,26 +1,21 @@
 -- `walks::Walk::format` meets its contract: the pages' number comes first. Assumes nothing.
-use mathlib.Core.Path.{sym}
-use Rattle.requests.specs.Numbers.{number_in, pages_number}
+use Rattle.std.proofs.Common.{rules, length, ◌≡◌, ap, ◌∙◌, Err}
+use Rattle.requests.specs.Numbers.{pages_number}
 use Rattle.requests.proofs.Laws.{legal_pages}
-use Rattle.flash.proofs.Laws.{told}
-use Rattle.walks.specs.Walks.{begin_format}
+use Rattle.walks.specs.Walks.{begin_format, beginning_in}
 use Rattle.walks.proofs.Numbers.{begin_refused, begin_on}
 use Rattle.walks.proofs.Walk.format.Goals as goal
 
 pub first_walk-requires : goal.first_walk-requires
 unfolding pages_number
-first_walk-requires c =
-    let e = told number_in c.in-Legal.is c.check_lengths.ensures in
-    (legal_pages _ _ (sym e)).most
+first_walk-requires c = (legal_pages (length c.args.left.now) (length c.args.right.now) (search rules)).most
 
-pub returns-in-Refused : goal.returns-in-Refused
+pub returns-in_err-check_lengths : goal.returns-in_err-check_lengths
 unfolding begin_format pages_number
-returns-in-Refused c =
-    begin_refused _ _ c.in-Refused.why
-    (told number_in c.in-Refused.is c.check_lengths.ensures)
+returns-in_err-check_lengths c =
+    let e : c.from_residual.result ≡ Err c.in_err-check_lengths.field-0.0 = search rules in
+    ap beginning_in e ∙ begin_refused _ _ c.in_err-check_lengths.field-0.0 (search rules)
 
-pub returns-in-Legal : goal.returns-in-Legal
+pub returns : goal.returns
 unfolding begin_format pages_number
-returns-in-Legal c =
-    begin_on _ _ _ (told number_in c.in-Legal.is c.check_lengths.ensures)
-    c.first_walk.ensures
+returns c = begin_on _ _ _ (search rules) c.first_walk.ensures

@@ -1,9 +1,0 @@
--- a line begins within the text, and what is left of it decreases
-use Rattle.std.proofs.Common.{length, ◌-◌, ◌≤◌}
-use Rattle.listings.proofs.calls_in.Given as goal
-
-abbrev pub invariant-loop-at : goal.invariant-loop-at
-invariant-loop-at l = l.at ≤ length l.text
-
-abbrev pub decreases-loop-at : goal.decreases-loop-at
-decreases-loop-at l = length l.text - l.at

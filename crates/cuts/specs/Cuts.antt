@@ -2,7 +2,7 @@
 -- `--cuts` in docs/FORMATS.md).
 -- In order: the last walk; a cut; the tally of all cuts.
 -- Not here: what a read shows and its verdict (the crate verdicts). Laws: proofs/. Assumes nothing.
-use Rattle.std.specs.Prelude.{Option}
+use Rattle.std.specs.Prelude.{Option, is_some}
 use Rattle.std.specs.Prelude.{ℕ, zero, suc, ◌+◌, Bool, true, false, cond, ◌&&◌, List, [], ◌∷◌, eqb, Some, None}
 use Rattle.plans.specs.Counts.{step_count}
 use Rattle.walks.specs.declared.Walk.{Walk}
@@ -93,9 +93,5 @@ abbrev pub script_tally : List ℕ → List ℕ → List ℕ → Tally
 script_tally text l r = board_tally (last_walk (powered l r) (script_calls text l r))
 
 -- whether a script begins a walk
-abbrev pub has_board : Option Board → Bool
-has_board None = false
-has_board (Some b) = true
-
 abbrev pub is_begun_in : List ℕ → List ℕ → List ℕ → Bool
-is_begun_in text l r = has_board (last_walk (powered l r) (script_calls text l r))
+is_begun_in text l r = is_some (last_walk (powered l r) (script_calls text l r))

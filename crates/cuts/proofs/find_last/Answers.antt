@@ -1,6 +1,5 @@
 -- `cuts::find_last` meets its contract. The loop's invariant: the last walk so far, with those that are still to come.
 -- Assumes nothing.
-use Rattle.std.specs.Prelude.{Some}
 use Rattle.std.proofs.Common.{length, refl, sym, ◌≡◌, ◌∙◌, ap, arith}
 use Rattle.sessions.proofs.Loop.{copied_room, less_on}
 use Rattle.cuts.proofs.Laws.{sought_first, sought_not, sought_one, sought_last}

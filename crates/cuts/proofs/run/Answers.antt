@@ -2,7 +2,8 @@
 use Rattle.std.proofs.Common.{ap, sym}
 use Rattle.sessions.proofs.Loop.{not_right}
 use Rattle.turns.proofs.Laws.{loaded_part}
-use Rattle.cuts.specs.Cuts.{board_tally, has_board}
+use Rattle.std.specs.Prelude.{is_some}
+use Rattle.cuts.specs.Cuts.{board_tally}
 use Rattle.cuts.proofs.Laws.{no_walks, tally_one}
 use Rattle.cuts.proofs.run.Goals as goal
 
@@ -11,7 +12,7 @@ returns-then-page-gt-MAX_PAGE-clause-tally c = sym (ap board_tally (no_walks c.a
     (λ x. not_right c.args.left.now c.args.right.now c.then-page-gt-MAX_PAGE.either x.most x.same)))
 
 pub returns-then-page-gt-MAX_PAGE-clause-found : goal.returns-then-page-gt-MAX_PAGE-clause-found
-returns-then-page-gt-MAX_PAGE-clause-found c = sym (ap has_board (no_walks c.args.text.now c.args.left.now c.args.right.now
+returns-then-page-gt-MAX_PAGE-clause-found c = sym (ap is_some (no_walks c.args.text.now c.args.left.now c.args.right.now
     (λ x. not_right c.args.left.now c.args.right.now c.then-page-gt-MAX_PAGE.either x.most x.same)))
 
 pub returns-clause-tally : goal.returns-clause-tally

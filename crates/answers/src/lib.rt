@@ -3,11 +3,12 @@
 // of walks. The lines are in docs/FORMATS.md. Nothing here is lent a page for writing.
 #![tactic(auto)]
 
+use arrayvec::ArrayVec;
 use asks::Call;
 use boards::Answer;
 use copies::first;
 use listings::Listing;
-use pages::{ImageOffset, Side};
+use pages::{ImageOffset, Pair, Side};
 use plans::{ImageCell, Spot};
 use prints::Output;
 use sessions::{Answered, Session};
@@ -18,21 +19,22 @@ use verdicts::{Tally, Verdict};
 use views::{Counts, Event, InWords, Rows, Shown, Words};
 use walks::Walk;
 
-// A script, and the pages as they are while it is made.
+// Which lines the steps that program image cells have: a run of them has one, or each has its own.
 #[derive(Clone, Copy)]
-pub struct Scene<'a> {
-    pub text: &'a [u8],
-    pub left: &'a [u8],
-    pub right: &'a [u8],
+pub enum Steps {
+    Folded,
+    Each,
 }
 
-// An image that a read showed: the first bytes of a buffer, since memory is fixed; none where the read
-// was answered 5.
+// A script, and the pages as they are while it is made.
 #[derive(Clone, Copy)]
-struct Image {
-    bytes: [u8; pages::MAX_PAGE],
-    len: usize,
+pub struct Scene<'t, 'p> {
+    pub text: &'t [u8],
+    pub pair: Pair<'p>,
 }
+
+// An image that a read showed; no bytes where the read was answered 5.
+type Image = ArrayVec<u8, { pages::MAX_PAGE }>;
 
 // How often a read was judged, and what it showed.
 #[derive(Clone, Copy)]
@@ -44,11 +46,12 @@ struct Judged {
 // What a replay has printed so far: its lines; what a read showed before the call, and before the walk
 // in hand; whether the next step is one of a run that is printed as one line, and how many such steps
 // are made and not printed; and what a read showed after cuts and at the end of walks.
-#[derive(Clone, Copy)]
+#[derive(Drop)]
 pub struct Report {
     listing: Listing,
     shown: Image,
     old: Image,
+    // A plain yes or no of the next step: how many steps are folded is counted beside it.
     folds: bool,
     folded: u32,
     cuts: Judged,
@@ -78,35 +81,22 @@ impl fmt::Display for Seen<'_> {
     }
 }
 
-impl Image {
-    fn new() -> Image {
-        Image {
-            bytes: turns::blank(),
-            len: 0,
-        }
-    }
-
-    fn bytes(&self) -> &[u8] {
-        first(&self.bytes, self.len)
-    }
-
-    fn keep(&mut self, image: &[u8]) {
-        copies::copy(image, &mut self.bytes);
-        self.len = image.len();
-    }
+// Keeps an image in place of another. None is longer than a page, so it fits.
+fn keep(kept: &mut Image, image: &[u8]) {
+    kept.clear();
+    let _ = kept.try_extend_from_slice(image);
 }
 
-impl<'a> Scene<'a> {
+impl<'p> Scene<'_, 'p> {
     // What a read of the whole image shows.
-    fn image(self) -> &'a [u8] {
-        verdicts::image(self.left, self.right)
+    fn image(self) -> &'p [u8] {
+        verdicts::image(self.pair)
     }
 
     // Prints the pages and what a read shows, beside what it showed before.
     fn print(self, out: &mut Output, before: &[u8]) -> fmt::Result {
-        let Scene { left, right, .. } = self;
         let image = self.image();
-        write!(out, "  {}{}", Words { left, right }, Seen { image, before })
+        write!(out, "  {}{}", Words(self.pair), Seen { image, before })
     }
 
     // What the next line of a session asks for, where it is right.
@@ -118,8 +108,7 @@ impl<'a> Scene<'a> {
 
     // The number of an image cell, FFFF where there is none.
     fn value(self, side: Side, at: ImageOffset) -> u16 {
-        let page = side.pick(self.left, self.right);
-        flash::cell_at(page, at.to_page().0 as usize).unwrap_or(0xFFFF)
+        flash::cell_at(self.pair.on(side), at.to_page().0 as usize).unwrap_or(0xFFFF)
     }
 
     // What a read shows of the walk in hand beside the image before it. The walk's data is that of the
@@ -127,7 +116,7 @@ impl<'a> Scene<'a> {
     fn judge(self, session: Session, walk: Walk, old: &[u8]) -> Shown {
         let mut room = turns::blank();
         let size = turns::load(self.text, session.began, &mut room);
-        let data = first(&room, size);
+        let data = &room[..size];
         Shown {
             verdict: verdicts::judge(walk.request, self.image(), old, walk.offset, data),
             event: Event::from(walk.request),
@@ -170,15 +159,15 @@ impl Judged {
 
 impl fmt::Display for Judged {
     fn fmt<W: fmt::Write>(&self, f: &mut fmt::Formatter<W>) -> fmt::Result {
-        let times = self.times;
-        write!(f, "{times}, {}", InWords(self.tally))
+        let Judged { times, tally } = *self;
+        write!(f, "{times}, {}", InWords(tally))
     }
 }
 
 // ---- steps
 // Prints the step at a walk's place, which was made on the pages: an image cell by the number that it
 // then has.
-fn print_step(out: &mut Output, scene: Scene<'_>, walk: Walk) -> fmt::Result {
+fn print_step(out: &mut Output, scene: Scene<'_, '_>, walk: Walk) -> fmt::Result {
     let total = walk.total();
     write!(out, "  step {} of {total}: ", walk.place as u64 + 1)?;
     match views::spot(walk, walk.place) {
@@ -259,6 +248,7 @@ struct Cut(Walk);
 impl fmt::Display for Cut {
     fn fmt<W: fmt::Write>(&self, f: &mut fmt::Formatter<W>) -> fmt::Result {
         let walk = self.0;
+        // Both have names, since the tests and the texts below name them.
         let place = walk.place;
         let total = walk.total();
         let event = Event::from(walk.request);
@@ -297,7 +287,7 @@ fn print_idle(out: &mut Output) -> fmt::Result {
     writeln!(out, "  no walk is in hand: nothing happens")
 }
 
-fn print_cut(out: &mut Output, scene: Scene<'_>, hand: Option<Walk>) -> fmt::Result {
+fn print_cut(out: &mut Output, scene: Scene<'_, '_>, hand: Option<Walk>) -> fmt::Result {
     match hand {
         None => write!(out, "  the power is cut: no save or format is under way")?,
         Some(walk) => write!(out, "  the power is cut {}", Cut(walk))?,
@@ -307,7 +297,7 @@ fn print_cut(out: &mut Output, scene: Scene<'_>, hand: Option<Walk>) -> fmt::Res
 }
 
 // Prints what has no answer: a step with no walk, a cut, or a line with no call.
-fn print_nothing(out: &mut Output, scene: Scene<'_>, session: Session) -> fmt::Result {
+fn print_nothing(out: &mut Output, scene: Scene<'_, '_>, session: Session) -> fmt::Result {
     if session.left != 0 {
         return print_idle(out);
     }
@@ -333,26 +323,26 @@ impl Report {
     }
 
     // Prints the pages before the first call, after the end of a line.
-    pub fn start(&self, out: &mut Output, scene: Scene<'_>) -> fmt::Result {
+    pub fn start(&self, out: &mut Output, scene: Scene<'_, '_>) -> fmt::Result {
         writeln!(out, "\nat first")?;
-        scene.print(out, self.shown.bytes())
+        scene.print(out, self.shown.as_slice())
     }
 
     // Prints what comes before the next call of a session, over the pages before it, and keeps what a
-    // read shows. With `all` every step has its own lines.
+    // read shows.
     pub fn before(
         &mut self,
         out: &mut Output,
-        scene: Scene<'_>,
+        scene: Scene<'_, '_>,
         session: Session,
-        all: bool,
+        steps: Steps,
     ) -> fmt::Result {
-        self.folds = !all && is_next_cell(session);
+        self.folds = matches!(steps, Steps::Folded) && is_next_cell(session);
         if !self.folds {
             self.end_run(out, scene, session.hand)?;
         }
         if self.folded == 0 {
-            self.shown.keep(scene.image());
+            keep(&mut self.shown, scene.image());
         }
         if self.folds || session.left != 0 {
             return Ok(());
@@ -364,7 +354,7 @@ impl Report {
     pub fn after(
         &mut self,
         out: &mut Output,
-        scene: Scene<'_>,
+        scene: Scene<'_, '_>,
         session: Session,
         answered: Answered,
         output: &[u8],
@@ -378,11 +368,11 @@ impl Report {
     }
 
     // Prints what stands at the end of a script that was made.
-    pub fn end(&mut self, out: &mut Output, scene: Scene<'_>, session: Session) -> fmt::Result {
+    pub fn end(&mut self, out: &mut Output, scene: Scene<'_, '_>, session: Session) -> fmt::Result {
         self.end_run(out, scene, session.hand)?;
         writeln!(out, "cuts: {}", self.cuts)?;
         writeln!(out, "ended: {}", self.ends)?;
-        if verdicts::has_another(self.cuts.tally) || verdicts::has_another(self.ends.tally) {
+        if self.cuts.tally.has_another() || self.ends.tally.has_another() {
             writeln!(out, "failed: a read showed another image")
         } else {
             writeln!(
@@ -394,14 +384,19 @@ impl Report {
     }
 
     // Prints the run of image cells that isn't printed yet.
-    fn end_run(&mut self, out: &mut Output, scene: Scene<'_>, hand: Option<Walk>) -> fmt::Result {
+    fn end_run(
+        &mut self,
+        out: &mut Output,
+        scene: Scene<'_, '_>,
+        hand: Option<Walk>,
+    ) -> fmt::Result {
         let count = self.folded;
         self.folded = 0;
         match hand {
             Some(walk) if count != 0 => {
                 print_run(out, walk, count)?;
                 let image = scene.image();
-                let before = self.shown.bytes();
+                let before = self.shown.as_slice();
                 write!(out, "{}", Seen { image, before })
             }
             _ => Ok(()),
@@ -411,7 +406,7 @@ impl Report {
     fn print_answer(
         &self,
         out: &mut Output,
-        scene: Scene<'_>,
+        scene: Scene<'_, '_>,
         session: Session,
         answered: Answered,
         output: &[u8],
@@ -427,7 +422,7 @@ impl Report {
                 if let Some(walk) = session.hand {
                     print_step(out, scene, walk)?;
                 }
-                scene.print(out, self.shown.bytes())
+                scene.print(out, self.shown.as_slice())
             }
             Answer::Ended => {
                 print_handed(out, session)?;
@@ -435,10 +430,11 @@ impl Report {
             }
             Answer::Number(number) => writeln!(out, "  number {number}: {}", meaning(number)),
             Answer::Part(offset, len) => {
-                let part = reads::read(scene.left, scene.right, offset, len);
+                let part = reads::read(scene.pair, offset, len);
                 writeln!(out, "  given: {}", Bytes(part))
             }
             Answer::Output(number) => {
+                // Nothing promises that so many bytes fit, so `first`.
                 let output = Bytes(first(output, answered.len));
                 match number {
                     0 => writeln!(out, "  given: {output}"),
@@ -458,13 +454,13 @@ impl Report {
     fn judge(
         &mut self,
         out: &mut Output,
-        scene: Scene<'_>,
+        scene: Scene<'_, '_>,
         session: Session,
         answered: Answered,
     ) -> fmt::Result {
         match answered.answer {
             Answer::Begun => {
-                self.old.keep(scene.image());
+                keep(&mut self.old, scene.image());
                 self.judge_end(out, scene, answered.session)
             }
             Answer::Made => self.judge_end(out, scene, answered.session),
@@ -477,10 +473,15 @@ impl Report {
     }
 
     // After the walk in hand was begun or stepped: where it has no step left, what a read shows.
-    fn judge_end(&mut self, out: &mut Output, scene: Scene<'_>, session: Session) -> fmt::Result {
+    fn judge_end(
+        &mut self,
+        out: &mut Output,
+        scene: Scene<'_, '_>,
+        session: Session,
+    ) -> fmt::Result {
         match session.hand {
             Some(walk) if walk.place == walk.total() => {
-                let shown = scene.judge(session, walk, self.old.bytes());
+                let shown = scene.judge(session, walk, self.old.as_slice());
                 self.ends.count(out, shown)
             }
             _ => Ok(()),
@@ -488,10 +489,15 @@ impl Report {
     }
 
     // After a cut: what a read shows.
-    fn judge_cut(&mut self, out: &mut Output, scene: Scene<'_>, session: Session) -> fmt::Result {
+    fn judge_cut(
+        &mut self,
+        out: &mut Output,
+        scene: Scene<'_, '_>,
+        session: Session,
+    ) -> fmt::Result {
         let shown = match session.hand {
-            None => scene.judge_idle(self.shown.bytes()),
-            Some(walk) => scene.judge(session, walk, self.old.bytes()),
+            None => scene.judge_idle(self.shown.as_slice()),
+            Some(walk) => scene.judge(session, walk, self.old.as_slice()),
         };
         self.cuts.count(out, shown)
     }

@@ -18,7 +18,7 @@ const NAME_SIZE: usize = 4095;
 // How many bytes of an argument that is wrong are printed.
 const SHOWN: usize = 40;
 
-// The system's number for a name that is none.
+// The system's number for a name that is none: a number, since the line of such an error prints it.
 const NO_NAME: i32 = 22;
 
 // An argument of the program: the first is its own name.
@@ -30,6 +30,7 @@ pub struct Argument {
 
 // An argument that is an option, begins as one, or is none. The help and the version stand alone; with
 // other arguments they are crowded.
+// Each program takes some of these words and refuses the others in one arm, so `Unknown` is no None.
 #[derive(Clone, Copy, PartialEq, Eq, Debug)]
 pub enum Word {
     Help,
@@ -120,11 +121,10 @@ impl Argument {
 
     // The number that it is, of a label.
     pub fn number(self, label: &'static str) -> Result<u32, Error> {
-        match parse(self.start(&mut [0; NAME_SIZE])) {
-            Ok(value) => Ok(value),
-            Err(Fault::PastBits) => Err(Error::PastBits(label, self)),
-            Err(_) => Err(Error::NoNumber(label, self)),
-        }
+        parse(self.start(&mut [0; NAME_SIZE])).map_err(|fault| match fault {
+            Fault::PastBits => Error::PastBits(label, self),
+            _ => Error::NoNumber(label, self),
+        })
     }
 }
 
@@ -150,7 +150,8 @@ impl fmt::Display for Error {
 
 // ---- names
 impl Name {
-    // Whether two names are those of one file.
+    // Whether two names are those of one file. It reads the arguments, of which no contract can say
+    // anything, so no law of `PartialEq` could be proved of it.
     pub fn is_same(self, other: Name) -> bool {
         match (self, other) {
             (Name::Argument(left), Name::Argument(right)) => {
@@ -172,11 +173,17 @@ impl fmt::Display for Name {
 }
 
 // Whether arguments may be names of files: none is too long, and standard input isn't named twice.
-pub fn check_names(names: &[Argument]) -> Result<(), Error> {
-    if let Some(name) = names.iter().find(|name| name.is_too_long()) {
+pub fn check_names(names: &[Option<Argument>]) -> Result<(), Error> {
+    if let Some(name) = names.iter().flatten().find(|name| name.is_too_long()) {
         return Err(Error::TooLong(name.at));
     }
-    if names.iter().filter(|name| name.is_input()).count() > 1 {
+    if names
+        .iter()
+        .flatten()
+        .filter(|name| name.is_input())
+        .count()
+        > 1
+    {
         return Err(Error::InputTwice);
     }
     Ok(())
@@ -201,10 +208,8 @@ impl Read for Opened {
 
 // Opens the file of a path. The system's paths are text here, so bytes that are none name no file.
 fn open_path(rt: HostRuntime, path: &[u8]) -> io::Result<Opened> {
-    match std::str::from_utf8(path) {
-        Ok(path) => Ok(Opened::File(File::open(&rt, path)?)),
-        Err(_) => Err(io::Error::from_raw_os_error(NO_NAME)),
-    }
+    let path = std::str::from_utf8(path).map_err(|_| io::Error::from_raw_os_error(NO_NAME))?;
+    Ok(Opened::File(File::open(&rt, path)?))
 }
 
 // Opens the file of a name, or takes standard input.
@@ -218,7 +223,8 @@ pub fn open(rt: HostRuntime, name: Name) -> io::Result<Opened> {
 
 // ---- numbers
 // The number of hexadecimal digits. One that is past 32 bits is read on all the same: a byte that is no
-// digit is the fault to be told.
+// digit is the fault to be told. Not one function with `digits::parse_number`, whose contract and whose laws
+// are those of base ten.
 fn parse_hex(word: &[u8]) -> Result<u32, Fault> {
     let mut number = Some(0u32);
     for byte in word {

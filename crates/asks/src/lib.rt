@@ -43,6 +43,7 @@ pub struct Wrong {
 }
 
 // What a line has that has no word of a number, which would be one too many.
+#[tactic(auto, unfolding(crate::specs::Asks::ended_by))]
 fn ended<T: Drop>(line: &[u8], number: usize, value: T) -> Result<T, Wrong>
     ensures { result ≡ ended_by number line.now value }
 {
@@ -57,6 +58,7 @@ fn ended<T: Drop>(line: &[u8], number: usize, value: T) -> Result<T, Wrong>
 }
 
 // A call whose bytes are word 2, the last.
+#[tactic(auto, using(std::proofs::lemmas::Bool::Decides::nat_tests), unfolding(crate::specs::Asks::with_bytes, crate::specs::Asks::with_digits))]
 fn with_bytes(line: &[u8], call: Call) -> Result<Call, Wrong>
     ensures { result ≡ with_bytes line.now call }
 {
@@ -80,6 +82,7 @@ fn number(line: &[u8], word: usize) -> Result<u32, Wrong>
     digits::parse_number(texts::word(line, word)).map_err(|fault| Wrong { fault, word })
 }
 
+#[tactic(auto, unfolding(crate::specs::Asks::save_of))]
 fn parse_save(line: &[u8]) -> Result<Call, Wrong>
     ensures { result ≡ save_of line.now }
 {
@@ -87,7 +90,9 @@ fn parse_save(line: &[u8]) -> Result<Call, Wrong>
     with_bytes(line, Call::Save(PageOffset(offset)))
 }
 
-// All steps are as many as a number may be, more than any walk has.
+// All steps are as many as a number may be, more than any walk has. No `match` of the word: it goes byte by
+// byte, and its default wants an answer for each of nine ways to it.
+#[tactic(auto, using(crate::proofs::Laws::same_is), unfolding(crate::specs::Asks::step_of, crate::specs::Asks::steps_of))]
 fn parse_step(line: &[u8]) -> Result<Call, Wrong>
     ensures { result ≡ step_of line.now }
 {
@@ -104,6 +109,7 @@ fn parse_step(line: &[u8]) -> Result<Call, Wrong>
 }
 
 // The page offset and the length of a part, with a limit to the length.
+#[tactic(auto, using(std::proofs::lemmas::Bool::Decides::nat_tests), unfolding(crate::specs::Asks::part_of))]
 fn parse_part(line: &[u8], most: u32) -> Result<(PageOffset, u32), Wrong>
     ensures { result ≡ part_of most line.now }
 {
@@ -120,6 +126,7 @@ fn parse_part(line: &[u8], most: u32) -> Result<(PageOffset, u32), Wrong>
 
 // The call of a line of this name. No `match` of the name: its 25 default arms did not close in the
 // proof.
+#[tactic(auto, using(crate::proofs::Laws::same_is, crate::proofs::Laws::called), unfolding(crate::specs::Asks::named_of))]
 fn parse_named(line: &[u8], name: &[u8]) -> Result<Call, Wrong>
     ensures { result ≡ named_of name.now line.now }
 {
@@ -145,6 +152,7 @@ fn parse_named(line: &[u8], name: &[u8]) -> Result<Call, Wrong>
 
 // The call of a line that begins with its first word, if it asks for one, or what is wrong with it: the
 // first fault from the left.
+#[tactic(auto, unfolding(crate::specs::Asks::asks_of, crate::specs::Asks::call_of))]
 pub fn parse(line: &[u8]) -> Result<Option<Call>, Wrong>
     ensures { asks_in result ≡ asks_of line.now }
 {

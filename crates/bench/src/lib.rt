@@ -12,12 +12,13 @@ ghost use Rattle.walks.specs.Walks.{begin_save};
 ghost use Rattle.pages.specs.Pages.{state_from};
 ghost use Rattle.bench.specs.Calls.{kept_in, start_in, code_of, Stepped, step_from};
 
-use pages::{PageOffset, State};
+use pages::{PageOffset, Pair, State};
 use plans::Request;
 use walks::{Progress, Walk};
 
 // A beginning: the number, 0 where the walk is begun, and the line and erased-or-not that it then
 // keeps. What else it keeps the caller gave.
+// An exported function returns no enum, and bench/plain.h has these fields: so no Result, and a bool.
 #[repr(C)]
 #[derive(Clone, Copy)]
 pub struct Start {
@@ -36,12 +37,13 @@ fn kept_in(walk: Walk) -> Start
     }
 }
 
+// C hands over each page by itself.
 #[unsafe(no_mangle)]
 pub extern "C" fn bench_begin(left: &[u8], right: &[u8], offset: u32, data: &[u8]) -> Start
     ensures { result ≡ start_in (begin_save left.now right.now (record { 0 = offset })
         «data».now) }
 {
-    match Walk::save(left, right, PageOffset(offset), data) {
+    match Walk::save(Pair { left, right }, PageOffset(offset), data) {
         Ok(walk) => kept_in(walk),
         Err(why) => Start {
             number: why.number(),
@@ -56,12 +58,10 @@ pub extern "C" fn bench_begin(left: &[u8], right: &[u8], offset: u32, data: &[u8
 fn state_of(line: u32) -> Option<State>
     ensures { result ≡ state_from line }
 {
-    match u8::try_from(line) {
-        Ok(line) => State::of_line(line),
-        Err(_) => None,
-    }
+    State::of_line(u8::try_from(line).ok()?)
 }
 
+// An exported function returns no enum: the codes are those of bench/plain.h.
 fn code_of(progress: Progress) -> u32
     ensures { result ≡ code_of progress }
 {
@@ -74,6 +74,7 @@ fn code_of(progress: Progress) -> u32
 
 // One step of the save that keeps these numbers; its place moves on where the step is made. A line
 // that isn't in the table is answered 6.
+// C hands over each number by itself (c_step in bench/plain.c), so no struct holds them.
 #[unsafe(no_mangle)]
 pub extern "C" fn bench_step(
     line: u32,

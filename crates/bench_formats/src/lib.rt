@@ -7,9 +7,11 @@ ghost use Rattle.bench_walks.specs.Whole.{Walked, walked};
 ghost use Rattle.walks.specs.Walks.{begin_format};
 
 use bench_walks::Whole;
+use pages::Pair;
 use walks::Walk;
 
 // Formats the pages; a format has no data.
+// C hands over each page by itself.
 #[unsafe(no_mangle)]
 pub extern "C" fn bench_format(left: &mut [u8], right: &mut [u8]) -> Whole
     ensures { ◌≡◌ {A = Walked}
@@ -25,6 +27,6 @@ pub extern "C" fn bench_format(left: &mut [u8], right: &mut [u8]) -> Whole
         right.old
         []) }
 {
-    let begun = Walk::format(left, right);
+    let begun = Walk::format(Pair { left, right });
     bench_walks::walk(begun, left, right, &[])
 }

@@ -11,9 +11,10 @@ ghost use Rattle.flash.specs.Flash.{Outcome, is_erased};
 ghost use Rattle.reads.specs.Reads.{read_part, filled};
 ghost use Rattle.bench_reads.specs.Parts.{seen};
 
-use pages::PageOffset;
+use pages::{PageOffset, Pair};
 
 // A part that was read: how many bytes, and the first of them; 0 where there is none.
+// An exported function returns no enum, and bench/plain.h has these fields: so no Option.
 #[repr(C)]
 #[derive(Clone, Copy)]
 pub struct Part {
@@ -35,11 +36,12 @@ pub extern "C" fn bench_erased(page: &[u8]) -> bool
     flash::erased(page)
 }
 
+// C hands over each page by itself.
 #[unsafe(no_mangle)]
 pub extern "C" fn bench_part<'a>(left: &'a [u8], right: &'a [u8], offset: u32, len: u32) -> Part
     ensures { result ≡ seen (read_part left.now right.now (record { 0 = offset }) len) }
 {
-    let part = reads::read(left, right, PageOffset(offset), len);
+    let part = reads::read(Pair { left, right }, PageOffset(offset), len);
     Part {
         len: part.len(),
         first: first_of(part),
@@ -60,6 +62,6 @@ pub extern "C" fn bench_copy<'a>(
         (record { 0 = offset })
         out.old) }
 {
-    let reading = reads::read_into(left, right, PageOffset(offset), out);
+    let reading = reads::read_into(Pair { left, right }, PageOffset(offset), out);
     reads::number_of(reading) as u32
 }

@@ -7,10 +7,11 @@ ghost use Rattle.bench_walks.specs.Whole.{Walked, walked};
 ghost use Rattle.walks.specs.Walks.{begin_save};
 
 use bench_walks::Whole;
-use pages::PageOffset;
+use pages::{PageOffset, Pair};
 use walks::Walk;
 
 // Saves the data at a page offset.
+// C hands over each page by itself.
 #[unsafe(no_mangle)]
 pub extern "C" fn bench_save(left: &mut [u8], right: &mut [u8], offset: u32, data: &[u8]) -> Whole
     ensures { ◌≡◌ {A = Walked}
@@ -30,6 +31,6 @@ pub extern "C" fn bench_save(left: &mut [u8], right: &mut [u8], offset: u32, dat
         right.old
         «data».now) }
 {
-    let begun = Walk::save(left, right, PageOffset(offset), data);
+    let begun = Walk::save(Pair { left, right }, PageOffset(offset), data);
     bench_walks::walk(begun, left, right, data)
 }

@@ -16,6 +16,7 @@ use walks::{Progress, Walk};
 const MOST_STEPS: u32 = 2053;
 
 // A whole walk: the number, 0 where it was walked to its end, and how many steps were made.
+// An exported function returns no enum, and bench/plain.h has these fields: so no Result.
 #[repr(C)]
 #[derive(Clone, Copy)]
 pub struct Whole {
@@ -34,6 +35,7 @@ fn last_number(progress: Progress) -> u32
 }
 
 // Steps what is begun to its end; a refused request has its number and changes nothing.
+// Both pages lent for writing go side by side, as `pages::Pair` says.
 pub fn walk(begun: Result<Walk, Refusal>, left: &mut [u8], right: &mut [u8], data: &[u8]) -> Whole
     ensures { ◌≡◌ {A = Walked}
         (record {

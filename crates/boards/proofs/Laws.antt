@@ -13,6 +13,7 @@ use lib.ListN.{replicate}
 use Rattle.flash.specs.Flash.{Outcome as Filled}
 use Rattle.pages.specs.declared.PageOffset.{PageOffset}
 use Rattle.reads.specs.Reads.{read_number, read_part, filled}
+use denote.Ref.{Bor}
 use Rattle.walks.specs.declared.Walk.{Walk}
 use Rattle.walks.specs.declared.Progress.{Progress}
 use Rattle.walks.specs.declared.Progress as P
@@ -40,7 +41,7 @@ use Rattle.boards.specs.declared.Call.TheVariants.{Save, Format, Step, Read, Rea
 use Rattle.boards.specs.declared.Answer.{Answer}
 use Rattle.boards.specs.declared.Answer as A
 use Rattle.boards.specs.declared.Turn.{Turn}
-use Rattle.boards.specs.Boards.{board_in, answer_in, answers_in, held_after, begun_turn, progress_answer, read_answer, turn_in, made_on, Steps}
+use Rattle.boards.specs.Boards.{board_in, answer_in, answers_in, kept_after, held_after, begun_turn, progress_answer, read_answer, turn_in, made_on, Steps}
 
 -- ---- beginnings
 pub save_made : (o : PageOffset) (hand : Option Walk) (begun : Result Walk Refusal) (held d l r out : List ℕ) (t : Turn)
@@ -197,6 +198,16 @@ answer_same : (p : Progress) (l r out : List ℕ) → answer_in (progress_answer
 answer_same P.TheVariants.Made l r out = refl
 answer_same P.TheVariants.Ended l r out = refl
 answer_same P.TheVariants.Unfit l r out = refl
+
+-- what is kept of two references is kept of what they lead to
+pub kept_now : (a : Answer) (own before : Bor (List ℕ)) → (kept_after a own before).now ≡ held_after a own.now before.now
+kept_now A.TheVariants.Nothing own before = refl
+kept_now A.TheVariants.Begun own before = refl
+kept_now A.TheVariants.Made own before = refl
+kept_now A.TheVariants.Ended own before = refl
+kept_now (A.TheVariants.Number n) own before = refl
+kept_now (A.TheVariants.Part o n) own before = refl
+kept_now (A.TheVariants.Output n) own before = refl
 
 still_held : (p : Progress) (own held : List ℕ) → held_after (progress_answer p) own held ≡ held
 still_held P.TheVariants.Made own held = refl

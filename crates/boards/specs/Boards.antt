@@ -73,14 +73,18 @@ own_of (L.TheVariants.Read o n) d = []
 own_of (L.TheVariants.ReadInto o) d = []
 own_of L.TheVariants.Cut d = []
 
+-- what is kept after an answer, of a call's own and of what was kept before
+abbrev pub kept_after : {A : Type 0} → Answer → A → A → A
+kept_after A.TheVariants.Nothing own before = before
+kept_after A.TheVariants.Begun own before = own
+kept_after A.TheVariants.Made own before = before
+kept_after A.TheVariants.Ended own before = before
+kept_after (A.TheVariants.Number n) own before = before
+kept_after (A.TheVariants.Part o n) own before = before
+kept_after (A.TheVariants.Output n) own before = before
+
 abbrev pub held_after : Answer → List ℕ → List ℕ → List ℕ
-held_after A.TheVariants.Nothing own held = held
-held_after A.TheVariants.Begun own held = own
-held_after A.TheVariants.Made own held = held
-held_after A.TheVariants.Ended own held = held
-held_after (A.TheVariants.Number n) own held = held
-held_after (A.TheVariants.Part o n) own held = held
-held_after (A.TheVariants.Output n) own held = held
+held_after a own held = kept_after a own held
 
 -- the turn after a beginning, and the answer after a step and of a read by its number
 abbrev pub begun_turn : Option Walk → Result Walk Refusal → Turn

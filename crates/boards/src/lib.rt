@@ -10,6 +10,7 @@ ghost use Rattle.reads.specs.Reads.{read_number};
 ghost use Rattle.model.specs.Board.{handed};
 ghost use Rattle.boards.specs.Boards.{
   board_in,
+  kept_after,
   begun_turn,
   progress_answer,
   read_answer,
@@ -19,7 +20,7 @@ ghost use Rattle.boards.specs.Boards.{
   Steps,
 };
 
-use pages::{PageOffset, State};
+use pages::{PageOffset, Pair, State};
 use plans::Request;
 use requests::Refusal;
 use walks::{Progress, Walk};
@@ -42,6 +43,8 @@ pub enum Call {
 // An answer: none, a walk begun, a step made, the walk ended, document 01's number, a part of the
 // live page by its page offset and length, or that the output holds the bytes, with the number of
 // that read.
+// The model has the same seven: none is an answer of its own, so it is `Nothing` and no Option, and a number
+// is document 01's.
 #[derive(Clone, Copy, Debug, PartialEq, Eq)]
 pub enum Answer {
     Nothing,
@@ -51,6 +54,18 @@ pub enum Answer {
     Number(u8),
     Part(PageOffset, u32),
     Output(u8),
+}
+
+impl Answer {
+    // What is kept after a call, of its own and of what was kept before: its own where it began a walk.
+    pub fn kept<T: Copy>(self, own: T, before: T) -> T
+        ensures { result ≡ kept_after self own before }
+    {
+        match self {
+            Answer::Begun => own,
+            _ => before,
+        }
+    }
 }
 
 // The hand after a call, how many steps were made, and the answer to the call, or to all steps after
@@ -105,13 +120,15 @@ fn begin(hand: Option<Walk>, begun: Result<Walk, Refusal>) -> Turn
 }
 
 // ---- steps
-fn progress_answer(progress: Progress) -> Answer
-    ensures { result ≡ progress_answer progress }
-{
-    match progress {
-        Progress::Made => Answer::Made,
-        Progress::Ended => Answer::Ended,
-        Progress::Unfit => Answer::Number(UNFIT),
+impl From<Progress> for Answer {
+    ghost from_gives = { λ progress answer. answer ≡ progress_answer progress };
+
+    fn from(progress: Progress) -> Answer {
+        match progress {
+            Progress::Made => Answer::Made,
+            Progress::Ended => Answer::Ended,
+            Progress::Unfit => Answer::Number(UNFIT),
+        }
     }
 }
 
@@ -127,6 +144,8 @@ fn handed<'a>(held: &'a [u8], given: &'a [u8]) -> &'a [u8]
 }
 
 // So many steps of the walk in hand.
+// Both pages lent for writing go side by side, as `pages::Pair` says. The others are
+// each by itself in the model's board and call.
 fn step<'a>(
     hand: Option<Walk>,
     times: u32,
@@ -150,18 +169,20 @@ fn step<'a>(
             Turn {
                 hand: Some(ran.walk),
                 made: ran.steps,
-                answer: progress_answer(ran.progress),
+                answer: Answer::from(ran.progress),
             }
         }
     }
 }
 
 // ---- reads
-fn read(left: &[u8], right: &[u8], offset: PageOffset, len: u32) -> Answer
+fn read(pair: Pair<'_>, offset: PageOffset, len: u32) -> Answer
     ensures { result
-        ≡ read_answer (read_number left.now right.now offset len) offset len }
+        ≡ read_answer
+        (read_number pair.entry.left.now pair.entry.right.now offset len)
+        offset len }
 {
-    match reads::check_read(left, right, offset, len) {
+    match reads::check_read(pair, offset, len) {
         Ok(()) => Answer::Part(offset, len),
         Err(error) => Answer::Number(error.number()),
     }
@@ -181,6 +202,8 @@ fn answered(hand: Option<Walk>, answer: Answer) -> Turn
 
 // Makes a call on the pages with this walk in hand, which was begun with the data held. The data is
 // that of a save or of the steps; the output is filled by a read into it, and kept by any other call.
+// Each parameter is by itself in the model's board and call; both pages lent for writing go side by side,
+// as `pages::Pair` says.
 pub fn make<'a>(
     call: Call,
     hand: Option<Walk>,
@@ -203,12 +226,12 @@ pub fn make<'a>(
         out.old) }
 {
     match call {
-        Call::Save(offset) => begin(hand, Walk::save(left, right, offset, data)),
-        Call::Format => begin(hand, Walk::format(left, right)),
+        Call::Save(offset) => begin(hand, Walk::save(Pair { left, right }, offset, data)),
+        Call::Format => begin(hand, Walk::format(Pair { left, right })),
         Call::Step(times) => step(hand, times, held, data, left, right),
-        Call::Read(offset, len) => answered(hand, read(left, right, offset, len)),
+        Call::Read(offset, len) => answered(hand, read(Pair { left, right }, offset, len)),
         Call::ReadInto(offset) => {
-            let reading = reads::read_into(left, right, offset, out);
+            let reading = reads::read_into(Pair { left, right }, offset, out);
             answered(hand, Answer::Output(reads::number_of(reading)))
         }
         Call::Cut => answered(emptied(hand), Answer::Nothing),

@@ -14,7 +14,7 @@ pub fn copy(src: &[u8], dst: &mut [u8])
     dst[..count].copy_from_slice(&src[..count]);
 }
 
-// The first bytes of a buffer, all where it has fewer.
+// The first bytes of a buffer, all where it has fewer: for a length that no promise says fits.
 pub fn first(buffer: &[u8], count: usize) -> &[u8]
     ensures { result.now ≡ take count buffer.now }
 {

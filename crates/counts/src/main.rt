@@ -3,7 +3,7 @@
 #![tactic(auto)]
 
 use flash::StepError;
-use pages::PageOffset;
+use pages::{PageOffset, Pair};
 use prints::Output;
 use requests::Refusal;
 use std::fmt;
@@ -65,7 +65,8 @@ const ROWS: [Row; 14] = [
 // More steps than any walk makes.
 const MOST_STEPS: u32 = 3000;
 
-// What is printed for the count of a walk that is refused or doesn't end: no walk has so many steps.
+// What is printed for the count of a walk that is refused or doesn't end, which is None till then: the line
+// has a number in its place, and no walk has so many steps.
 const NO_COUNT: u32 = 9999;
 
 // A save's data.
@@ -79,15 +80,14 @@ fn prepare(page: &mut [u8], word: u32, cell: u16) -> Result<(), StepError> {
 }
 
 // Steps a walk to its end and counts the steps made.
+// Both pages lent for writing go side by side, as `pages::Pair` says.
 fn count_steps(
     begun: Result<Walk, Refusal>,
     left: &mut [u8],
     right: &mut [u8],
     data: &[u8],
 ) -> Option<u32> {
-    let Ok(walk) = begun else {
-        return None;
-    };
+    let walk = begun.ok()?;
     let ran = walk.run(MOST_STEPS, left, right, data);
     matches!(ran.progress, Progress::Ended).then_some(ran.steps)
 }
@@ -108,17 +108,17 @@ impl Row {
     // What the library counts.
     fn count(self) -> Counts {
         Counts {
-            line: self.ask(|left, right| table::status_of(left, right).state.line()),
+            line: self.ask(|left, right| table::status_of(Pair { left, right }).state.line()),
             save: self.ask(|left, right| {
                 count_steps(
-                    Walk::save(left, right, PageOffset(4), &DATA),
+                    Walk::save(Pair { left, right }, PageOffset(4), &DATA),
                     left,
                     right,
                     &DATA,
                 )
             }),
             format: self.ask(|left, right| {
-                count_steps(Walk::format(left, right), left, right, &[])
+                count_steps(Walk::format(Pair { left, right }), left, right, &[])
             }),
         }
     }

@@ -23,6 +23,7 @@ ghost use Rattle.cuts.specs.Cuts.{
 use boards::Answer;
 use listings::Listing;
 use loads::Source;
+use pages::Pair;
 use plans::Request;
 use prints::Output;
 use sessions::{Answered, Session};
@@ -44,9 +45,8 @@ struct Last {
 struct Start<'a> {
     walk: Walk,
     data: &'a [u8],
-    left: &'a [u8],
-    right: &'a [u8],
-    ghost fits: { (length left.now ≤ 4096) × (length right.now ≤ 4096) },
+    pair: Pair<'a>,
+    ghost fits: { (length pair.left.now ≤ 4096) × (length pair.right.now ≤ 4096) },
 }
 
 // ---- the last walk
@@ -67,30 +67,30 @@ fn begun(answered: Answered) -> Option<Last>
 fn find_last(
     rt: HostRuntime,
     text: &[u8],
-    left: &[u8],
-    right: &[u8],
+    pair: Pair<'_>,
     kept_left: &mut [u8],
     kept_right: &mut [u8],
 ) -> Option<Last>
-    requires { (length left.now ≤ 4096)
-        × (length right.now ≡ length left.now)
-        × (length kept_left.old ≡ length left.now)
-        × (length kept_right.old ≡ length left.now) }
+    requires { (length pair.left.now ≤ 4096)
+        × (length pair.right.now ≡ length pair.left.now)
+        × (length kept_left.old ≡ length pair.left.now)
+        × (length kept_right.old ≡ length pair.left.now) }
     ensures { last_in text.now result kept_left.new kept_right.new
         ≡ last_walk
-        (powered left.now right.now)
-        (script_calls text.now left.now right.now) }
+        (powered pair.entry.left.now pair.entry.right.now)
+        (script_calls text.now pair.entry.left.now pair.entry.right.now) }
 {
-    let page = left.len();
+    let page = pair.left.len();
     let mut left_room = turns::blank();
     let mut right_room = turns::blank();
     let now_left = &mut left_room[..page];
     let now_right = &mut right_room[..page];
-    copies::copy(left, now_left);
-    copies::copy(right, now_right);
+    copies::copy(pair.left, now_left);
+    copies::copy(pair.right, now_right);
     let mut session = Session::new();
     let mut last = None;
     let mut listing = Listing::new();
+    // Each call changes the lent pages, which an iterator over the calls would hold, so no `for`.
     while session.is_on(text) {
         if session.left == 0 {
             listing.count(rt);
@@ -112,7 +112,7 @@ impl Start<'_> {
     // Prints the walk that is cut, of the line at a place, after where two pages come from and P. A save has
     // its data at that line, and no format is refused where a walk can be begun.
     fn print(&self, out: &mut Output, source: Source, text: &[u8], at: usize) -> fmt::Result {
-        let page = self.left.len();
+        let page = self.pair.left.len();
         writeln!(out, "{source}\nP = {page}")?;
         let line = match self.walk.request {
             Request::Save => listings::line_at(text, at),
@@ -130,13 +130,12 @@ impl Start<'_> {
         &self,
         out: &mut Output,
         count: u32,
-        left: &[u8],
-        right: &[u8],
+        pair: Pair<'_>,
         verdict: Verdict,
     ) -> fmt::Result {
         let total = self.walk.total();
         let event = Event::from(self.walk.request);
-        let line = Line { left, right };
+        let line = Line(pair);
         let shown = Shown { verdict, event };
         writeln!(
             out,
@@ -149,24 +148,25 @@ impl Start<'_> {
     fn cut_after(&self, out: &mut Output, count: u32) -> Verdict
         ensures { verdict_in result
             ≡ cut_shown count self.now.walk self.now.«data».now
-            self.now.left.now
-            self.now.right.now }
+            self.now.pair.left.now
+            self.now.pair.right.now }
     {
         let mut left_room = turns::blank();
         let mut right_room = turns::blank();
-        let left = &mut left_room[..self.left.len()];
-        let right = &mut right_room[..self.right.len()];
-        copies::copy(self.left, left);
-        copies::copy(self.right, right);
+        let left = &mut left_room[..self.pair.left.len()];
+        let right = &mut right_room[..self.pair.right.len()];
+        copies::copy(self.pair.left, left);
+        copies::copy(self.pair.right, right);
         self.walk.run(count, left, right, self.data);
+        let pair = Pair { left, right };
         let verdict = verdicts::judge(
             self.walk.request,
-            verdicts::image(left, right),
-            verdicts::image(self.left, self.right),
+            verdicts::image(pair),
+            verdicts::image(self.pair),
             self.walk.offset,
             self.data,
         );
-        let _ = self.print_cut(out, count, left, right, verdict);
+        let _ = self.print_cut(out, count, pair, verdict);
         verdict
     }
 
@@ -175,10 +175,11 @@ impl Start<'_> {
         ensures { result
             ≡ tallied (total_of self.now.walk + 1) self.now.walk
             self.now.«data».now
-            self.now.left.now
-            self.now.right.now }
+            self.now.pair.left.now
+            self.now.pair.right.now }
     {
         let mut tally = Tally::new();
+        // The number is what differs from cut to cut; there is no list to go over.
         for count in 0..=self.walk.total() {
             tally = tally.with(self.cut_after(out, count));
         }
@@ -188,17 +189,13 @@ impl Start<'_> {
 
 // Makes a script, and prints the last save or format in it that is begun and its cuts, or nothing where
 // there is none. Pages that differ in length, or are longer than any page, have no calls.
-pub fn run(
-    out: &mut Output,
-    source: Source,
-    text: &[u8],
-    left: &[u8],
-    right: &[u8],
-) -> Option<Tally>
+pub fn run(out: &mut Output, source: Source, text: &[u8], pair: Pair<'_>) -> Option<Tally>
     ensures tally { unwrap_or result no_cuts
-        ≡ script_tally text.now left.now right.now }
-    ensures found { is_some result ≡ is_begun_in text.now left.now right.now }
+        ≡ script_tally text.now pair.entry.left.now pair.entry.right.now }
+    ensures found { is_some result
+        ≡ is_begun_in text.now pair.entry.left.now pair.entry.right.now }
 {
+    let Pair { left, right } = pair;
     let page = left.len();
     if pages::MAX_PAGE < page || right.len() != page {
         return None;
@@ -207,14 +204,16 @@ pub fn run(
     let mut right_room = turns::blank();
     let kept_left = &mut left_room[..page];
     let kept_right = &mut right_room[..page];
-    let last = find_last(out.runtime(), text, left, right, kept_left, kept_right)?;
+    let last = find_last(out.runtime(), text, pair, kept_left, kept_right)?;
     let mut data_room = turns::blank();
     let size = turns::load(text, last.at, &mut data_room);
     let start = Start {
         walk: last.walk,
         data: &data_room[..size],
-        left: kept_left,
-        right: kept_right,
+        pair: Pair {
+            left: kept_left,
+            right: kept_right,
+        },
     };
     let _ = start.print(out, source, text, last.at);
     let tally = start.cut_each(out);

@@ -3,25 +3,14 @@
 -- Assumes nothing.
 use Rattle.std.proofs.Common.{◌≡◌, ℕ, ◌+◌, ◌*◌, ◌/◌, ◌<◌, ◌≤◌, Bool, true, false, cond, ◌&&◌, List, [], ◌∷◌, ◌++◌, ltb, leb, length, get_or, take, drop, set, refl, sym, ap, ◌∙◌, arith, append_assoc}
 use borrow.Author.Tests.{lt-ltb, le-ltb, ltb-true, le-leb, lt-leb, ltb-false}
-use Rattle.std.specs.Prelude.{Option, Some, None, unwrap_or, is_some, IfSome, MatchOption, ok_or, Result, Ok, Err}
+use Rattle.std.specs.Prelude.{Option, Some, None, unwrap_or, is_some, IfSome, MatchOption, Result, Err}
 use Rattle.std.specs.Bool.{then_some}
 use Rattle.std.specs.List.{list_all}
-use Rattle.std.proofs.lemmas.List.{drop_more, drop_all, take_more, take_all, set_at, length-drop, length-take-le}
+use Rattle.std.proofs.lemmas.List.{drop_more, take_more, take_all, set_at, length-drop, length-take-le}
 use Rattle.std.proofs.lemmas.Bool.Decides.{nat_tests}
 use Rattle.digits.specs.declared.Fault.{Fault}
-use Rattle.digits.specs.declared.Fault.TheVariants.{NoNumber, NotNumber, PastBits}
-use Rattle.digits.specs.Digits.{digit_of, number_from, number_of, all_hex, joined_of, bytes_of, Decoded, decoded}
-
--- ---- numbers
-pub number_none : (s : List ℕ) → length s ≡ 0 → Err NoNumber ≡ number_of s
-unfolding number_of
-number_none [] h = refl
-number_none (x ∷ xs) h = absurd (omega arith)
-
-pub number_some : (s : List ℕ) → (length s ≡ 0 → ⊥) → number_from 0 s ≡ number_of s
-unfolding number_of
-number_some [] h = absurd (h refl)
-number_some (x ∷ xs) h = refl
+use Rattle.digits.specs.declared.Fault.TheVariants.{NotNumber}
+use Rattle.digits.specs.Digits.{digit_of, number_from, all_hex, joined_of, bytes_of, Decoded, decoded}
 
 number_cons : (value x : ℕ) (xs : List ℕ) (t : Bool) → ltb 9 (digit_of x) ≡ t
     → number_from value (x ∷ xs) ≡ cond t (Err NotNumber) (number_from (value * 10 + digit_of x) xs)
@@ -61,24 +50,12 @@ decimal_is b None r e h = h ∙ ap (λ (d : ℕ). cond (ltb 9 d) None (Some d)) 
 decimal_is b (Some d) r e (t, h, k) =
     k ∙ ap (λ (u : Bool). then_some u d) h ∙ decimal_digit d ∙ ap (λ (n : ℕ). cond (ltb 9 n) None (Some n)) e
 
-decimal_none : (d : ℕ) → ◌≡◌ {A = Option ℕ} (cond (ltb 9 d) None (Some d)) None → 9 < d
-decimal_none d h = grind (arith, nat_tests)
-
 decimal_some : (d n : ℕ) → ◌≡◌ {A = Option ℕ} (cond (ltb 9 d) None (Some d)) (Some n) → (n ≡ d) × (d ≤ 9)
 decimal_some d n h = go (ltb 9 d) refl h
   where
     go : (t : Bool) → ltb 9 d ≡ t → ◌≡◌ {A = Option ℕ} (cond t None (Some d)) (Some n) → (n ≡ d) × (d ≤ 9)
     go true e k = absurd (cc)
     go false e k = (cc, ltb-false 9 d e)
-
-pub number_bad : (s : List ℕ) (i : ℕ) (so_far : Option ℕ) (n : Result ℕ Fault) → i < length s
-    → decimal_of (get_or s i 0) ≡ None → number_on_from so_far (drop i s) ≡ n → Err NotNumber ≡ n
-number_bad s i so_far n h k f =
-    sym
-    (ap (number_on_from so_far) (drop_more s i 0 h)
-    ∙ number_cons (unwrap_or so_far 4294967296) (get_or s i 0) (drop (i + 1) s) true
-    (lt-ltb 9 (digit_of (get_or s i 0)) (decimal_none (digit_of (get_or s i 0)) k)))
-    ∙ f
 
 -- a digit more of a number, which is none from where it is past 32 bits on
 abbrev pub grown : Option ℕ → ℕ → Option ℕ
@@ -122,16 +99,6 @@ number_on s i d so_far n h k f =
     ∙ sym
     (ap (number_from value) (drop_more s i 0 h)
     ∙ number_cons value (get_or s i 0) (drop (i + 1) s) false (le-ltb 9 (digit_of (get_or s i 0)) small))
-    ∙ f
-
-pub number_end : (s : List ℕ) (i : ℕ) (so_far : Option ℕ) (n : Result ℕ Fault) → length s ≤ i
-    → IfSome so_far (λ v. v < 4294967296) → number_on_from so_far (drop i s) ≡ n → ok_or so_far PastBits ≡ n
-unfolding number_from
-number_end s i None n h k f = sym (ap (number_from 4294967296) (drop_all i s h)) ∙ f
-number_end s i (Some v) n h k f =
-    sym
-    (ap (number_from v) (drop_all i s h)
-    ∙ ap (λ (t : Bool). cond t (Ok v) (Err PastBits)) (lt-ltb v 4294967296 k))
     ∙ f
 
 -- ---- hexadecimal digits

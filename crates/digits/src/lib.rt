@@ -61,6 +61,7 @@ fn appended(value: u32, digit: u8) -> Option<u32>
 
 // The decimal number that a word is. One that is past 32 bits is read on all the same: a byte that is
 // no digit is the fault to be told.
+#[tactic(auto, using(std::proofs::lemmas::Bool::Decides::nat_tests), unfolding(crate::specs::Digits::number_from, crate::specs::Digits::number_of))]
 pub fn parse_number(word: &[u8]) -> Result<u32, Fault>
     ensures { result ≡ number_of word.now }
 {
@@ -103,6 +104,7 @@ pub fn decode(digits: &[u8], into: &mut [u8]) -> usize
     if into.len() < count {
         return 0;
     }
+    // A place, since of what `iter_mut().zip(..)` writes a proof knows how many bytes it is and no byte.
     for (i, pair) in digits.chunks_exact(2).enumerate() {
         into[i] = joined(pair[0], pair[1]);
     }

@@ -38,6 +38,7 @@ fn erase_entry(place: u32) -> Entry
 }
 
 // The first step before the image cells of a save that begins at a line, with nothing erased.
+// An arm for each line, in the paper's order, so that it can be read beside the paper.
 #[tactic(auto, unfolding(pages::specs::Pages::live_of))]
 fn first_step(state: State) -> Step
     ensures { result ≡ (get_or (ready state false) 0 nothing).step }
@@ -57,6 +58,7 @@ fn first_step(state: State) -> Step
 }
 
 // The line after it, where another step follows before the image cells.
+// Its arms are in the paper's order, as those of `first_step`.
 #[tactic(auto, unfolding(pages::specs::Pages::live_of))]
 fn next_state(state: State) -> State
     ensures { result ≡ (get_or (ready state false) 1 nothing).state }
@@ -76,6 +78,7 @@ fn next_state(state: State) -> State
 }
 
 // That step as an entry.
+#[tactic(auto, using(plans::proofs::Laws::head_entry))]
 fn first_entry(state: State) -> Entry
     ensures { result ≡ get_or (ready state false) 0 nothing }
 {
@@ -100,6 +103,7 @@ fn ready_entry(start: State, place: u32) -> Entry
 }
 
 // A step of a format that isn't empty.
+#[tactic(auto, using(plans::proofs::Laws::format_first, plans::proofs::Laws::format_later))]
 fn format_entry(start: State, place: u32) -> Entry
     ensures { result ≡ get_or (formatting start false) place nothing }
 {
@@ -114,22 +118,17 @@ fn format_entry(start: State, place: u32) -> Entry
 fn clean_state(live: Option<Side>) -> State
     ensures { result ≡ clean live }
 {
-    match live {
-        None => State::S0,
-        Some(side) => side.pick(State::S1, State::S8),
-    }
+    live.map_or(State::S0, |side| side.pick(State::S1, State::S8))
 }
 
 fn target_side(live: Option<Side>) -> Side
     ensures { result ≡ target live }
 {
-    match live {
-        None => Side::Left,
-        Some(side) => side.other(),
-    }
+    live.map_or(Side::Left, Side::other)
 }
 
-// The entry of a management cell that is programmed to a number.
+// The entry of a management cell that is programmed to a number. Whether it is the deciding store is the
+// entry's own yes or no, handed through.
 fn marking(state: State, side: Side, cell: u32, value: u16, commits: bool) -> Entry
     ensures { result ≡ (record { state = state; step = mark side cell value; commits = commits }) }
 {
@@ -159,6 +158,7 @@ fn mark_entry(live: Option<Side>, place: u32) -> Entry
 }
 
 // ---- what stands at a place
+#[tactic(auto, using(plans::proofs::Counts::ready_length, plans::proofs::Laws::ready_inside, plans::proofs::Spots::spot_cell_lem, plans::proofs::Spots::spot_mark, plans::proofs::Spots::spot_ready))]
 fn save_spot(plan: Plan, place: u32) -> Spot
     requires { place < step_count Save plan.start plan.erased plan.page }
     ensures { result ≡ save_spot plan.start plan.erased plan.page place }
@@ -194,6 +194,7 @@ pub fn spot_at(plan: Plan, place: u32) -> Option<Spot>
 }
 
 // The image cell at a place of a save's list.
+#[tactic(auto, using(plans::proofs::Counts::ready_length, plans::proofs::Spots::spot_cell_lem, plans::proofs::Spots::spot_mark, plans::proofs::Spots::spot_ready))]
 fn save_cell(plan: Plan, place: u32) -> Option<ImageCell>
     ensures { result ≡ cell_of (save_spot plan.start plan.erased plan.page place) }
 {

@@ -5,7 +5,7 @@
 
 ghost use Rattle.std.specs.Prelude.{◌≤◌};
 
-use pages::PageOffset;
+use pages::{PageOffset, Pair};
 use prints::Output;
 use requests::Refusal;
 use std::fmt;
@@ -85,6 +85,7 @@ const QUESTIONS: [Question; 4] = [
 struct Answer {
     number: Number,
     wanted: Number,
+    // A plain yes or no: a save and a format hand out no bytes, so they always fit.
     fitting: bool,
 }
 
@@ -114,12 +115,12 @@ impl From<Result<Walk, Refusal>> for Number {
 }
 
 // The read without a copy: the asked part of LEFT where it is legal, else none.
-fn ask_read(vector: Vector, left: &[u8], right: &[u8]) -> (Number, bool) {
-    let reading = reads::check_read(left, right, vector.offset, vector.len);
+fn ask_read(vector: Vector, pair: Pair<'_>) -> (Number, bool) {
+    let reading = reads::check_read(pair, vector.offset, vector.len);
     let number = Number::from(reads::number_of(reading));
-    let part = reads::read(left, right, vector.offset, vector.len);
+    let part = reads::read(pair, vector.offset, vector.len);
     if number.0.is_none() {
-        (number, part == vector.asked_of(left))
+        (number, part == vector.asked_of(pair.left))
     } else {
         (number, part.is_empty())
     }
@@ -127,17 +128,11 @@ fn ask_read(vector: Vector, left: &[u8], right: &[u8]) -> (Number, bool) {
 
 // The copying read: the output then holds the asked part of LEFT where it is legal, else what it
 // held before.
-fn ask_copy(
-    vector: Vector,
-    left: &[u8],
-    right: &[u8],
-    out: &mut [u8],
-    before: &[u8],
-) -> (Number, bool) {
-    let reading = reads::read_into(left, right, vector.offset, out);
+fn ask_copy(vector: Vector, pair: Pair<'_>, out: &mut [u8], before: &[u8]) -> (Number, bool) {
+    let reading = reads::read_into(pair, vector.offset, out);
     let number = Number::from(reads::number_of(reading));
     if number.0.is_none() {
-        (number, &*out == vector.asked_of(left))
+        (number, &*out == vector.asked_of(pair.left))
     } else {
         (number, &*out == before)
     }
@@ -154,18 +149,17 @@ impl Question {
         right[..4].copy_from_slice(&[0, 0, 0, 255]);
         let mut out = [165u8; MOST];
         let lent = [165u8; MOST];
-        let left = &left[..vector.page];
-        let right = &right[..vector.page];
+        let pair = Pair {
+            left: &left[..vector.page],
+            right: &right[..vector.page],
+        };
         let out = &mut out[..vector.len as usize];
         let lent = &lent[..vector.len as usize];
         let (number, fitting) = match self {
-            Question::Read => ask_read(vector, left, right),
-            Question::Copy => ask_copy(vector, left, right, out, lent),
-            Question::Save => (
-                Number::from(Walk::save(left, right, vector.offset, lent)),
-                true,
-            ),
-            Question::Format => (Number::from(Walk::format(left, right)), true),
+            Question::Read => ask_read(vector, pair),
+            Question::Copy => ask_copy(vector, pair, out, lent),
+            Question::Save => (Number::from(Walk::save(pair, vector.offset, lent)), true),
+            Question::Format => (Number::from(Walk::format(pair)), true),
         };
         Answer {
             number,

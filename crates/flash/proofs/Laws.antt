@@ -1,13 +1,14 @@
 -- Laws of cells, programming and erasing: callers use these and never the text of the definitions.
 -- In order: answers and Booleans; cells; programming; erasing; the erased test.
 -- Not here: laws of lists (lib.Seq, lib.ListN) and of bits (lib.Bits). Assumes nothing.
-use Rattle.std.specs.Prelude.{Some, None}
+use Rattle.std.specs.Prelude.{Some, None, Result, Ok, Err}
+use Rattle.std.specs.Result.{is_err}
 use Prim.Native.Nat.{ℕ, zero, suc, ◌+◌, ◌*◌, ◌%◌, ◌/◌, ◌<◌, ◌≤◌}
 use mathlib.Core.Path.{◌≡◌, refl, sym, ap, ap₂, ◌∙◌}
 use mathlib.Core.Bool.{Bool, true, false, cond, not, ◌&&◌}
 use mathlib.Core.List.{List, [], ◌∷◌, ◌++◌, append-nil}
 use native.Mathlib.Numerals.{add-one}
-use native.Mathlib.Nat.{add-zero}
+use native.Mathlib.Nat.{add-zero, suc-add}
 use native.Mathlib.Omega.{arith}
 use lib.Bits.{bit_and, and_self, and_le_l, and_le_r}
 use lib.Dec.{eqb, ltb}
@@ -15,10 +16,14 @@ use lib.ListN.{length, get_or, set, take, drop, replicate, length-set, length-re
 use lib.Seq.{drop-cons, drop-drop, drop-length, get_or-set_same, get_or-set_other}
 use borrow.Author.Fill.{fill_more}
 use borrow.Author.Tests.{eqb-true, eqb-false, ltb-true, eq-eqb, ne_eqb, lt-ltb, le-ltb}
-use Rattle.std.specs.Int.{w64, from_le_bytes}
+use Rattle.std.specs.Int.{w16, w64, from_le_bytes, to_le_bytes}
+use borrow.Rule.Slice.PartMut.{put_mid}
 use Rattle.std.specs.List.{list_all}
 use Rattle.std.specs.Simd.{first_chunks}
+use Rattle.flash.specs.declared.StepError.{StepError}
+use Rattle.flash.specs.declared.StepError.TheVariants.{Unfit}
 use Rattle.flash.specs.Flash.{
+  number_in,
   is_cell,
   cell_at,
   cell_of,
@@ -106,6 +111,11 @@ pub fits_nowhere : (l : List ℕ) (i v : ℕ) → cell_of l i ≡ None → fits 
 unfolding fits
 fits_nowhere l i v e = simp (outside_cell l i e)
 
+-- a step that isn't made has one number
+pub refused : (r : Result (Unit {0}) StepError) → is_err r ≡ true → number_in r ≡ 6
+refused (Ok made) e = cc
+refused (Err Unfit) e = refl
+
 -- the three ways a step ends, from a look at the cell and the test of its bits
 pub step_nowhere : (l : List ℕ) (i v : ℕ) → cell_of l i ≡ None
     → ◌≡◌ {A = Outcome} (record { number = 6; bytes = l }) (programmed l i v)
@@ -115,7 +125,7 @@ pub step_unfit : (l : List ℕ) (i v old : ℕ) → cell_of l i ≡ Some old →
     → ◌≡◌ {A = Outcome} (record { number = 6; bytes = l }) (programmed l i v)
 step_unfit l i v old e h = sym (unfit l i v (fits_cell l i v old e ∙ ne_eqb (bit_and old v) v h))
 
-pub step_made : (l : List ℕ) (i v old : ℕ) → cell_of l i ≡ Some old → bit_and old v ≡ v
+step_made : (l : List ℕ) (i v old : ℕ) → cell_of l i ≡ Some old → bit_and old v ≡ v
     → ◌≡◌ {A = Outcome} (record { number = 0; bytes = stored l i (bit_and old v) }) (programmed l i v)
 step_made l i v old e h =
     sym (made l i v (fits_cell l i v old e ∙ eq-eqb (bit_and old v) v h)
@@ -123,6 +133,30 @@ step_made l i v old e h =
 
 pub holds_inside : (l : List ℕ) (i v : ℕ) → cell_of l i ≡ Some v → i + 1 < length l
 holds_inside l i v e = cell_inside l i (holds_cell l i v e).0
+
+-- a made step by the two bytes that are laid in: they are the number stored there
+put_stored : (l : List ℕ) (i k v : ℕ) → k ≡ 2 → v < 65536 → i + 1 < length l
+    → put_mid i k l (to_le_bytes w16 v) ≡ stored l i v
+unfolding stored
+put_stored l i k v e h n = rw e (go l i n)
+  where
+    high : v / 256 % 256 ≡ v / 256
+    high = omega (arith, h)
+
+    go : (l : List ℕ) (i : ℕ) → i + 1 < length l
+        → take i l ++ (v % 256 ∷ v / 256 % 256 ∷ drop 2 (drop i l)) ≡ set (set l i (v % 256)) (i + 1) (v / 256)
+    go [] i n = absurd (omega (arith, n))
+    go (x ∷ []) zero n = absurd (omega (arith, n))
+    go (x ∷ y ∷ xs) zero n = ap (λ (b : ℕ). v % 256 ∷ b ∷ xs) high
+    go (x ∷ xs) (suc i) n = rw (suc-add i 1) (ap (λ (r : List ℕ). x ∷ r) (go xs i (omega (arith, n))))
+
+pub step_laid : (l ys : List ℕ) (i k v old : ℕ) → cell_of l i ≡ Some old → bit_and old v ≡ v → v < 65536 → k ≡ 2
+    → ys ≡ to_le_bytes w16 (bit_and old v)
+    → ◌≡◌ {A = Outcome} (record { number = 0; bytes = put_mid i k l ys }) (programmed l i v)
+step_laid l ys i k v old e h w n y =
+    ap (λ (b : List ℕ). record { number = 0; bytes = b })
+    (ap (put_mid i k l) y ∙ put_stored l i k (bit_and old v) n (omega (arith, h)) (holds_inside l i old e))
+    ∙ step_made l i v old e h
 
 -- a stored number is read back from its cell, and every other byte is as it was
 pub cell_stored : (l : List ℕ) (i v : ℕ) → i + 1 < length l → cell_at (stored l i v) i ≡ v

@@ -45,24 +45,19 @@ pub fn cell_at(page: &[u8], at: usize) -> Option<u16>
 
 // Programs the cell at a place: every bit becomes old AND new. A step that would turn a 0 bit into
 // a 1, or that names no cell, isn't made and changes nothing.
+#[tactic(auto, using(crate::proofs::Laws::holds_inside, crate::proofs::Laws::step_unfit, crate::proofs::Laws::step_nowhere, crate::proofs::Laws::refused, crate::proofs::Laws::step_laid))]
 pub fn program(page: &mut [u8], at: usize, value: u16) -> Result<(), StepError>
     ensures { ◌≡◌ {A = Outcome}
         (record { number = number_in result; bytes = page.new })
         (programmed page.old at value) }
 {
-    match cell_at(page, at) {
-        None => Err(StepError::Unfit),
-        Some(old) => {
-            let kept = old & value;
-            if kept != value {
-                return Err(StepError::Unfit);
-            }
-            let next = at + 1;
-            page[at] = (kept % 256) as u8;
-            page[next] = (kept / 256) as u8;
-            Ok(())
-        }
+    let old = cell_at(page, at).ok_or(StepError::Unfit)?;
+    let kept = old & value;
+    if kept != value {
+        return Err(StepError::Unfit);
     }
+    page[at..at + 2].copy_from_slice(&kept.to_le_bytes());
+    Ok(())
 }
 
 // Erases the page, or the part lent: every byte becomes FF.
@@ -76,6 +71,7 @@ pub fn erase(page: &mut [u8])
 }
 
 // Eight bytes as one number, which has every bit set exactly if each byte is FF. Compiled, it is one load.
+#[tactic(auto, using(crate::proofs::Laws::eight_full))]
 fn number(eight: &[u8; 8]) -> u64
     ensures { eqb result 18446744073709551615 ≡ is_erased eight.now }
 {
@@ -83,6 +79,7 @@ fn number(eight: &[u8; 8]) -> u64
 }
 
 // Whether a block is all FF: its eights are joined by AND, with no way out between them.
+#[tactic(auto, using(crate::proofs::Laws::and_true, crate::proofs::Laws::eight_joined), unfolding(crate::specs::Flash::is_erased))]
 fn block_erased(block: &[u8; BLOCK]) -> bool
     ensures { result ≡ is_erased block.now }
 {
@@ -125,6 +122,7 @@ fn blocks_erased(page: &[u8]) -> bool
 
 // Whether every byte is FF; of no bytes, yes. The first byte is looked at by itself: most pages in use
 // show by it, and a wider load would wait for one that was just stored.
+#[tactic(auto, using(crate::proofs::Laws::first_used, crate::proofs::Laws::none_erased))]
 pub fn erased(page: &[u8]) -> bool
     ensures { result ≡ is_erased page.now }
 {

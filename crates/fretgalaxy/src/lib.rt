@@ -10,6 +10,7 @@ use scripts::ScriptError;
 // What happened (0: replayed, 1: the script is malformed, 2: its answers have no room) and a place:
 // how many bytes of the output the answers take, or the byte of the script at which the refused
 // call begins.
+// An exported function returns no enum, and include/fretgalaxy.h has these fields: so no Result.
 #[repr(C)]
 #[derive(Clone, Copy)]
 pub struct Report {
@@ -19,6 +20,7 @@ pub struct Report {
 
 // Replays a script on two pages and writes the answers to the output; what a refused script leaves
 // is what there was.
+// C hands over each page by itself.
 #[unsafe(no_mangle)]
 pub extern "C" fn fretgalaxy_replay(
     left: &mut [u8],

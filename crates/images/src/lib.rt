@@ -10,19 +10,17 @@ use pages::{ImageOffset, PageOffset};
 
 // The cell of the data, saved at a page offset, that lies at an image offset; none where the data
 // doesn't reach.
+#[tactic(auto, using(crate::proofs::Laws::data_before, crate::proofs::Laws::data_from))]
 fn data_cell(offset: PageOffset, data: &[u8], at: ImageOffset) -> Option<u16>
     ensures { result ≡ data_cell offset «data».now at }
 {
-    let start = offset.0;
-    let place = at.to_page().0;
-    if place < start {
-        return None;
-    }
-    flash::cell_at(data, (place - start) as usize)
+    let inside = at.to_page().0.checked_sub(offset.0)?;
+    flash::cell_at(data, inside as usize)
 }
 
 // The number of a cell of the new image: that of the data laid in, else that of the old image, else
 // FFFF.
+#[tactic(auto, using(crate::proofs::Laws::new_data, crate::proofs::Laws::new_old))]
 pub fn new_cell(old: &[u8], offset: PageOffset, data: &[u8], at: ImageOffset) -> u16
     ensures { result ≡ new_cell old.now offset «data».now at }
 {

@@ -1,20 +1,20 @@
 -- Laws of lines: whether the pages are at a line, by the two words of its row.
 -- Not here: the table (pages.proofs.Table). Assumes nothing.
-use Rattle.std.specs.Prelude.{Option, Some, None}
+use Rattle.std.specs.Prelude.{Option, Some}
 use Prim.Native.Nat.{ℕ, ◌<◌}
 use mathlib.Core.Path.{◌≡◌, refl, sym, ap, ◌∙◌}
-use mathlib.Core.Bool.{Bool, true, false, ◌&&◌}
+use mathlib.Core.Bool.{Bool, true, false, not, ◌&&◌}
 use mathlib.Core.List.{List}
 use native.Mathlib.Omega.{arith}
-use lib.Dec.{eqb}
+use lib.Dec.{eqb, ltb}
 use lib.ListN.{length, get_or, get_or-eq_default}
-use borrow.Author.Tests.{eqb-true, eqb-false, eq-eqb, ne_eqb}
+use borrow.Author.Tests.{eqb-true, eqb-false, eq-eqb, ne_eqb, le-ltb, lt-ltb}
 use Rattle.pages.specs.declared.Side.{Side}
 use Rattle.pages.specs.declared.Side.TheVariants.{Left, Right}
 use Rattle.pages.specs.declared.State.TheVariants.{S0}
 use Rattle.pages.specs.declared.State.{State}
 use Rattle.pages.specs.Pages.{word_of, status_of, line_of, row_of}
-use Rattle.pages.proofs.Table.{words_of, state_of, spare_none}
+use Rattle.pages.proofs.Table.{words_of, state_of, spare_none, word_none}
 use Rattle.pages.proofs.Laws.{line_same}
 use Rattle.plans.specs.Plans.{clean, meets}
 
@@ -34,6 +34,19 @@ no_spare r h =
     let e : get_or r 3 0 ≡ 0 = get_or-eq_default r 0 (omega (arith, h)) in
     omega (arith, e)
 
+-- the fourth byte says whether a word is below FF000000
+pub spare_word : (r : List ℕ) (b : ℕ) → b ≡ get_or r 3 0 → get_or r 0 0 < 256 → get_or r 1 0 < 256 → get_or r 2 0 < 256
+    → get_or r 3 0 < 256 → not (eqb b 255) ≡ ltb (word_of r) 0xFF000000
+unfolding word_of
+spare_word r b e v w x y = go (eqb b 255) refl
+  where
+    go : (t : Bool) → eqb b 255 ≡ t → not t ≡ ltb (word_of r) 0xFF000000
+    go true q = sym (le-ltb (word_of r) 0xFF000000 (omega (arith, eqb-true b 255 q, e)))
+    go false q = sym (lt-ltb (word_of r) 0xFF000000 (omega (arith, eqb-false b 255 q, e, v, w, x, y)))
+
+pub word_meets : (l r : List ℕ) → word_of r < 0xFF000000 → true ≡ meets S0 (status_of l r).state
+word_meets l r h = sym (same_meets S0 (status_of l r).state (word_none l r h))
+
 -- the pages are at a line or not, from the look-up where it is line 0
 pub at_none : (wanted s : State) → line_of wanted ≡ 0 → eqb (line_of s) 0 ≡ meets wanted s
 at_none wanted s h = go (eqb (line_of s) 0) refl
@@ -41,9 +54,6 @@ at_none wanted s h = go (eqb (line_of s) 0) refl
     go : (t : Bool) → eqb (line_of s) 0 ≡ t → t ≡ meets wanted s
     go true e = sym (eq-eqb (line_of wanted) (line_of s) (h ∙ sym (eqb-true (line_of s) 0 e)))
     go false e = sym (ne_eqb (line_of wanted) (line_of s) (λ q. eqb-false (line_of s) 0 e (sym q ∙ h)))
-
-pub none_alike : (wanted s : State) → line_of wanted ≡ 0 → meets S0 s ≡ meets wanted s
-none_alike wanted s h = sym (at_none S0 s refl) ∙ at_none wanted s h
 
 -- and from the two words of its row elsewhere
 not_there : (wanted s : State) → (s ≡ wanted → ⊥) → false ≡ meets wanted s
@@ -53,20 +63,20 @@ pub other_line : (wanted : State) → (wanted ≡ S0 → ⊥) → line_of wanted
 other_line wanted h e = h (line_same wanted S0 e)
 
 pub row_decides : (wanted : State) (l r : List ℕ) → (line_of wanted ≡ 0 → ⊥)
-    → (eqb (word_of l) (row_of wanted).0 && eqb (word_of r) (row_of wanted).1) ≡ meets wanted (status_of l r).state
-row_decides wanted l r h = go (eqb (word_of l) (row_of wanted).0) (eqb (word_of r) (row_of wanted).1) refl refl
+    → (eqb (word_of l) (row_of wanted).left && eqb (word_of r) (row_of wanted).right) ≡ meets wanted (status_of l r).state
+row_decides wanted l r h = go (eqb (word_of l) (row_of wanted).left) (eqb (word_of r) (row_of wanted).right) refl refl
   where
-    go : (s t : Bool) → eqb (word_of l) (row_of wanted).0 ≡ s → eqb (word_of r) (row_of wanted).1 ≡ t
+    go : (s t : Bool) → eqb (word_of l) (row_of wanted).left ≡ s → eqb (word_of r) (row_of wanted).right ≡ t
         → (s && t) ≡ meets wanted (status_of l r).state
     go true true e f =
         sym (same_meets wanted (status_of l r).state
-        (state_of l r wanted h (eqb-true (word_of l) (row_of wanted).0 e) (eqb-true (word_of r) (row_of wanted).1 f)))
+        (state_of l r wanted h (eqb-true (word_of l) (row_of wanted).left e) (eqb-true (word_of r) (row_of wanted).right f)))
     go true false e f =
         not_there wanted (status_of l r).state
-        (λ q. eqb-false (word_of r) (row_of wanted).1 f (words_of l r wanted q h).1)
+        (λ q. eqb-false (word_of r) (row_of wanted).right f (words_of l r wanted q h).1)
     go false t e f =
         not_there wanted (status_of l r).state
-        (λ q. eqb-false (word_of l) (row_of wanted).0 e (words_of l r wanted q h).0)
+        (λ q. eqb-false (word_of l) (row_of wanted).left e (words_of l r wanted q h).0)
 
 -- two words compared one after the other
 pub left_differs : (a b l r : ℕ) → (a ≡ l → ⊥) → false ≡ (eqb a l && eqb b r)
@@ -77,13 +87,13 @@ right_decides a b l r e = sym (simp (eq-eqb a l e))
 
 -- at the line of the image cells, which the live side tells
 side_decides : (s : Side) (l r : List ℕ)
-    → (eqb (word_of l) (row_of (clean (Some s))).0 && eqb (word_of r) (row_of (clean (Some s))).1)
+    → (eqb (word_of l) (row_of (clean (Some s))).left && eqb (word_of r) (row_of (clean (Some s))).right)
     ≡ meets (clean (Some s)) (status_of l r).state
 side_decides Left l r = row_decides (clean (Some Left)) l r (λ e. absurd (omega (arith, e)))
 side_decides Right l r = row_decides (clean (Some Right)) l r (λ e. absurd (omega (arith, e)))
 
 pub clean_side : (live : Option Side) (s : Side) (l r : List ℕ) (t : Bool) → live ≡ Some s
-    → t ≡ (eqb (word_of l) (row_of (clean (Some s))).0 && eqb (word_of r) (row_of (clean (Some s))).1)
+    → t ≡ (eqb (word_of l) (row_of (clean (Some s))).left && eqb (word_of r) (row_of (clean (Some s))).right)
     → t ≡ meets (clean live) (status_of l r).state
 clean_side live s l r t e h =
     h ∙ side_decides s l r ∙ ap (λ (x : Option Side). meets (clean x) (status_of l r).state) (sym e)

@@ -38,12 +38,14 @@ struct Lines<'a> {
 #[derive(Clone, Copy)]
 pub struct Listing {
     number: u64,
+    // A plain yes or no of the line before, with nothing else to say of it.
     heading: bool,
     due: u64,
 }
 
 // ---- lines
 // The comment of a line from its mark on, without the blanks, tabs and ends of a line that it ends with.
+// No `trim_ascii_end`, which takes off form feeds too.
 fn comment_in(line: &[u8]) -> &[u8] {
     let Some(start) = line.iter().position(|byte| *byte == b'#') else {
         return b"";
@@ -150,10 +152,9 @@ impl fmt::Display for Error<'_> {
                 line,
                 wrong,
             } => {
-                let number = line.number;
                 let word = texts::word(line.words, wrong.word);
                 let word = Escaped(&word[..word.len().min(MOST)]);
-                write!(f, "{script} line {number}: ")?;
+                write!(f, "{script} line {}: ", line.number)?;
                 match wrong.fault {
                     Fault::UnknownWord => write!(f, "unknown word '{word}'"),
                     Fault::NotNumber => write!(f, "'{word}' is no number"),
@@ -171,32 +172,24 @@ impl fmt::Display for Error<'_> {
 
 // Whether each line of a script is right and one of them has a call.
 pub fn check(script: Name, text: &[u8]) -> Result<(), Error<'_>> {
-    let mut has_calls = false;
     for line in Lines::new(text) {
-        match asks::parse(line.words) {
-            Ok(call) => has_calls |= call.is_some(),
-            Err(wrong) => {
-                return Err(Error::Line {
-                    script,
-                    line,
-                    wrong,
-                });
-            }
-        }
+        asks::parse(line.words).map_err(|wrong| Error::Line {
+            script,
+            line,
+            wrong,
+        })?;
     }
-    if has_calls {
-        Ok(())
-    } else {
-        Err(Error::NoCall { script })
+    if calls_in(text) == 0 {
+        return Err(Error::NoCall { script });
     }
+    Ok(())
 }
 
 // ---- what is printed
 impl fmt::Display for Line<'_> {
     // The call of a line with its number, tabs as blanks, and its comment, if it has one.
     fn fmt<W: fmt::Write>(&self, f: &mut fmt::Formatter<W>) -> fmt::Result {
-        let number = self.number;
-        write!(f, "script line {number}: ")?;
+        write!(f, "script line {}: ", self.number)?;
         for byte in self.words {
             let shown = if *byte == b'\t' { b' ' } else { *byte };
             write!(f, "{}", Escaped(&[shown]))?;

@@ -9,19 +9,20 @@ ghost use Rattle.requests.specs.Numbers.{pages_number};
 
 use arguments::{Argument, Name, Opened};
 use copies::first;
-use pages::Side;
+use pages::{Pair, Side};
 use std::io::Read;
 use std::{fmt, io};
 
 // The system's numbers for errors that have lines of their own: no such file, may not be read, and a
-// directory.
+// directory. No ErrorKind: 1 and 13 are one kind and have two lines, and the other lines print the number.
 const NO_FILE: i32 = 2;
 
 const NO_ACCESS: i32 = 13;
 
 const IS_DIRECTORY: i32 = 21;
 
-// The number of a call that signals cut short again and again.
+// The number of a call that signals cut short again and again: std gives that error without one, and its
+// line prints one.
 const CUT_SHORT: i32 = 4;
 
 // Where two pages come from.
@@ -175,9 +176,8 @@ impl fmt::Display for Error {
                 write!(f, "number 1: LENGTH is {page}: {}", fault_of(page, page))
             }
             Error::Past(parts, size, side) => {
-                let at = side.pick(parts.left_at, parts.right_at);
-                let file = parts.file;
-                let length = parts.length;
+                let at = parts.start(*side);
+                let Parts { file, length, .. } = *parts;
                 write!(
                     f,
                     "{file} has {}: {side}, {length} bytes from byte {at} on, goes past its end",
@@ -225,19 +225,23 @@ pub fn load_file<'a>(rt: HostRuntime, name: Name, into: &'a mut [u8]) -> Result<
 
 // ---- two pages
 impl Parts {
-    // Where a part that begins at a byte ends.
-    fn end_from(self, at: u32) -> usize
+    // From which byte on the part of a side is.
+    fn start(self, side: Side) -> u32 {
+        side.pick(self.left_at, self.right_at)
+    }
+
+    // Where the part of a side ends.
+    fn end_of(self, side: Side) -> usize
         ensures { result ≤ 8589934590 }
     {
-        at as usize + self.length as usize
+        self.start(side) as usize + self.length as usize
     }
 
     // Where the later of the two ends.
     fn end(self) -> usize
         ensures { result ≤ 8589934590 }
     {
-        self.end_from(self.left_at)
-            .max(self.end_from(self.right_at))
+        self.end_of(Side::Left).max(self.end_of(Side::Right))
     }
 }
 
@@ -252,6 +256,7 @@ fn keep(bytes: &[u8], at: usize, start: u32, part: &mut [u8]) {
 
 // Reads a file up to the end of the later part or its own, keeps both parts of it, and gives how many
 // bytes were read.
+// Here and below both buffers, lent for writing, go side by side, as `pages::Pair` says.
 fn fill_parts(
     file: &mut Opened,
     parts: Parts,
@@ -291,11 +296,11 @@ fn load_parts(
     right: &mut [u8],
 ) -> Result<(), Error> {
     let size = read_parts(rt, parts, left, right).map_err(|error| unread(parts.file, error))?;
-    if size < parts.end_from(parts.left_at) {
-        return Err(Error::Past(parts, size, Side::Left));
-    }
-    if size < parts.end_from(parts.right_at) {
-        return Err(Error::Past(parts, size, Side::Right));
+    // The first side that the file has no room for is told.
+    for side in [Side::Left, Side::Right] {
+        if size < parts.end_of(side) {
+            return Err(Error::Past(parts, size, side));
+        }
     }
     Ok(())
 }
@@ -309,13 +314,12 @@ impl Source {
         }
     }
 
-    // Two files that an argument and the next name, with a script that another names. With no script the
-    // program's own name, argument 0, stands for its name.
+    // Two files that an argument and the next name, with a script, if there is one, that another names.
     pub fn files(rt: HostRuntime, at: usize, script: Option<usize>) -> Result<Source, Error> {
         let argument = |at: usize| Argument { rt, at };
         let left = argument(at);
         let right = argument(at.wrapping_add(1));
-        arguments::check_names(&[left, right, argument(script.unwrap_or(0))])?;
+        arguments::check_names(&[Some(left), Some(right), script.map(argument)])?;
         Ok(Source::Files {
             left: Name::Argument(left),
             right: Name::Argument(right),
@@ -323,11 +327,11 @@ impl Source {
     }
 
     // Two parts of one file that an argument names, with LEFT-AT, RIGHT-AT and LENGTH behind it, and with a
-    // script that another names. The program's own name stands for that of a second file too.
+    // script, if there is one, that another names.
     pub fn parts(rt: HostRuntime, at: usize, script: Option<usize>) -> Result<Source, Error> {
         let argument = |at: usize| Argument { rt, at };
         let file = argument(at);
-        arguments::check_names(&[file, argument(0), argument(script.unwrap_or(0))])?;
+        arguments::check_names(&[Some(file), script.map(argument)])?;
         let left_at = argument(at.wrapping_add(1)).number("LEFT-AT")?;
         let right_at = argument(at.wrapping_add(2)).number("RIGHT-AT")?;
         let length = argument(at.wrapping_add(3)).number("LENGTH")?;
@@ -341,30 +345,16 @@ impl Source {
         }))
     }
 
-    // Where LEFT comes from.
-    pub fn left(self) -> Origin {
+    // Where the page of a side comes from.
+    pub fn origin(self, side: Side) -> Origin {
         match self {
-            Source::Files { left, .. } => Origin {
-                name: left,
+            Source::Files { left, right } => Origin {
+                name: side.pick(left, right),
                 from: None,
             },
             Source::Parts(parts) => Origin {
                 name: parts.file,
-                from: Some(parts.left_at),
-            },
-        }
-    }
-
-    // Where RIGHT comes from.
-    pub fn right(self) -> Origin {
-        match self {
-            Source::Files { right, .. } => Origin {
-                name: right,
-                from: None,
-            },
-            Source::Parts(parts) => Origin {
-                name: parts.file,
-                from: Some(parts.right_at),
+                from: Some(parts.start(side)),
             },
         }
     }
@@ -376,8 +366,8 @@ impl Source {
         rt: HostRuntime,
         left: &'a mut [u8],
         right: &'a mut [u8],
-    ) -> Result<(&'a [u8], &'a [u8]), Error>
-        ensures { IfOk result (λ pages. pages_number (length pages.0.now) (length pages.1.now) ≡ 0) }
+    ) -> Result<Pair<'a>, Error>
+        ensures { IfOk result (λ pair. pages_number (length pair.left.now) (length pair.right.now) ≡ 0) }
     {
         let (left, right) = match self {
             Source::Files {
@@ -389,14 +379,14 @@ impl Source {
             ),
             Source::Parts(parts) => {
                 load_parts(rt, parts, left, right)?;
+                // Nothing promises here that LENGTH fits, so `first`.
                 let page = parts.length as usize;
                 (first(left, page), first(right, page))
             }
         };
-        match requests::check_pages(left.len(), right.len()) {
-            Ok(()) => Ok((left, right)),
-            Err(_) => Err(self.wrong_lengths(left.len(), right.len())),
-        }
+        let checked = requests::check_pages(left.len(), right.len());
+        checked.map_err(|_| self.wrong_lengths(left.len(), right.len()))?;
+        Ok(Pair { left, right })
     }
 
     // The error of pages that were read and have no legal length.
@@ -413,8 +403,8 @@ impl Source {
 
 impl fmt::Display for Origin {
     fn fmt<W: fmt::Write>(&self, f: &mut fmt::Formatter<W>) -> fmt::Result {
-        let name = self.name;
-        match self.from {
+        let Origin { name, from } = *self;
+        match from {
             Some(from) => write!(f, "{name} from byte {from} on"),
             None => write!(f, "{name}"),
         }
@@ -424,6 +414,11 @@ impl fmt::Display for Origin {
 // A line for each of the two pages, the second with no end.
 impl fmt::Display for Source {
     fn fmt<W: fmt::Write>(&self, f: &mut fmt::Formatter<W>) -> fmt::Result {
-        write!(f, "LEFT  {}\nRIGHT {}", self.left(), self.right())
+        write!(
+            f,
+            "LEFT  {}\nRIGHT {}",
+            self.origin(Side::Left),
+            self.origin(Side::Right)
+        )
     }
 }

@@ -1,54 +1,22 @@
--- Laws of the look-up in a list of rows, of answers and of offsets.
--- In order: the look-up, row by row; states and what an answer says; offsets.
+-- Laws of states, of answers and of offsets.
+-- In order: states and what an answer says; offsets.
 -- Not here: what holds of document 01's own table (Table.antt, Life.antt). Assumes nothing.
 use Rattle.std.specs.Prelude.{Option, Some, None}
-use Prim.Native.Nat.{ℕ, zero, suc, ◌+◌, ◌*◌, ◌<◌, ◌≤◌, min}
+use Prim.Native.Nat.{ℕ, zero, suc, ◌+◌, ◌<◌, ◌≤◌, min}
 use mathlib.Core.Path.{◌≡◌, refl, sym, ap, ◌∙◌}
-use mathlib.Core.Bool.{Bool, true, false, ◌&&◌}
+use mathlib.Core.Bool.{Bool, true, false}
 use mathlib.Core.List.{List, [], ◌∷◌}
-use native.Mathlib.Numerals.{add-one}
 use native.Mathlib.Omega.{arith}
-use lib.Dec.{eqb, ltb}
-use lib.ListN.{length, drop, get_or, get_or-eq_default}
-use Rattle.std.specs.Prelude.{slice_index_or}
-use borrow.Author.Tests.{eq-eqb, ne_eqb, eqb-true, eqb-false, ltb-true, ltb-false}
+use lib.Dec.{ltb}
+use lib.ListN.{get_or, get_or-eq_default}
+use borrow.Author.Tests.{ltb-true, ltb-false}
 use Rattle.pages.specs.declared.State.{State}
 use Rattle.pages.specs.declared.State.TheVariants.{S0, S1, S2, S3, S5, S6, S7, S8, S9, S10}
 use Rattle.pages.specs.declared.Status.{Status}
-use Rattle.pages.specs.declared.Row.{Row}
 use Rattle.pages.specs.declared.PageOffset.{PageOffset}
 use Rattle.pages.specs.declared.ImageOffset.{ImageOffset}
-use Rattle.pages.specs.Pages.{hits, look, line_of, states, state_from, Standing, standing}
+use Rattle.pages.specs.Pages.{line_of, states, state_from, Standing, standing}
 use Rattle.pages.specs.Offsets.{to_page}
-
--- a row that doesn't hold the words is passed over, and one that holds them is the answer
-pub passed : (x : Row) (xs : List Row) (l r : ℕ) (t : Bool) → t ≡ hits x l r → t ≡ false
-    → look (x ∷ xs) l r ≡ look xs l r
-unfolding look
-passed x xs l r t e h = simp (sym e ∙ h)
-
-pub held : (x : Row) (xs : List Row) (l r : ℕ) (t : Bool) (s : Status) → t ≡ hits x l r → t ≡ true
-    → s ≡ (record { state = x.2; live = Some x.3 }) → s ≡ look (x ∷ xs) l r
-unfolding look
-held x xs l r t s e h f = f ∙ sym (simp (sym e ∙ h))
-
--- two words as one number tell both
-pub both_words : (a b l r : ℕ) → a < 4294967296 → l < 4294967296
-    → eqb (a + b * 4294967296) (l + r * 4294967296) ≡ (eqb a l && eqb b r)
-both_words a b l r h k = go (eqb a l) (eqb b r) refl refl
-  where
-    go : (s t : Bool) → eqb a l ≡ s → eqb b r ≡ t → eqb (a + b * 4294967296) (l + r * 4294967296) ≡ (s && t)
-    go true true e f =
-        let p = eqb-true a l e in
-        let q = eqb-true b r f in
-        eq-eqb (a + b * 4294967296) (l + r * 4294967296) (omega (arith, p, q))
-    go true false e f =
-        let p = eqb-true a l e in
-        let q = eqb-false b r f in
-        ne_eqb (a + b * 4294967296) (l + r * 4294967296) (λ z. q (omega (arith, p, z)))
-    go false t e f =
-        let p = eqb-false a l e in
-        ne_eqb (a + b * 4294967296) (l + r * 4294967296) (λ z. p (omega (arith, h, k, z)))
 
 -- ---- a state is known by its line number, and a status by what it says
 abbrev state_at : ℕ → State
@@ -149,30 +117,3 @@ within_bits i h = ap (λ (n : ℕ). record { 0 = n }) (sym (page_offset i h))
 pub past_bits : (i : ImageOffset) → 4294967291 < i.0 → ◌≡◌ {A = PageOffset} (record { 0 = 4294967295 }) (to_page i)
 unfolding to_page
 past_bits i h = let e : 4294967295 ≡ min (4 + i.0) 4294967295 = omega arith in ap (λ (n : ℕ). record { 0 = n }) e
-
--- ---- a look-up in the rows from a place on
-passed_one : (xs : List Row) (k : ℕ) (d : Row) (l r : ℕ) (t : Bool) → k < length xs
-    → t ≡ hits (slice_index_or xs k d) l r → t ≡ false → look (drop k xs) l r ≡ look (drop (suc k) xs) l r
-passed_one [] k d l r t h e f = absurd (omega (arith, h))
-passed_one (x ∷ xs) zero d l r t h e f = passed x xs l r t e f
-passed_one (x ∷ xs) (suc k) d l r t h e f = passed_one xs k d l r t (omega (arith, h)) e f
-
-pub passed_at : (xs : List Row) (k : ℕ) (d : Row) (l r : ℕ) (t : Bool) → k < length xs
-    → t ≡ hits (slice_index_or xs k d) l r → t ≡ false → look (drop k xs) l r ≡ look (drop (k + 1) xs) l r
-passed_at xs k d l r t h e f =
-    passed_one xs k d l r t h e f ∙ ap (λ (j : ℕ). look (drop j xs) l r) (sym (add-one k))
-
-pub held_at : (xs : List Row) (k : ℕ) (d : Row) (l r : ℕ) (t : Bool) → k < length xs
-    → t ≡ hits (slice_index_or xs k d) l r → t ≡ true
-    → record { state = (slice_index_or xs k d).2; live = Some (slice_index_or xs k d).3 } ≡ look (drop k xs) l r
-held_at [] k d l r t h e f = absurd (omega (arith, h))
-held_at (x ∷ xs) zero d l r t h e f = held x xs l r t _ e f refl
-held_at (x ∷ xs) (suc k) d l r t h e f = held_at xs k d l r t (omega (arith, h)) e f
-
-pub none_left : (xs : List Row) (k : ℕ) (l r : ℕ) → length xs ≤ k
-    → record { state = S0; live = None } ≡ look (drop k xs) l r
-unfolding look
-none_left [] zero l r h = refl
-none_left [] (suc k) l r h = refl
-none_left (x ∷ xs) zero l r h = absurd (omega (arith, h))
-none_left (x ∷ xs) (suc k) l r h = none_left xs k l r (omega (arith, h))

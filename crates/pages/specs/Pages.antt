@@ -10,7 +10,6 @@ use Rattle.pages.specs.declared.Side.TheVariants.{Left, Right}
 use Rattle.pages.specs.declared.State.{State}
 use Rattle.pages.specs.declared.State.TheVariants.{S0, S1, S2, S3, S5, S6, S7, S8, S9, S10}
 use Rattle.pages.specs.declared.Status.{Status}
-use Rattle.pages.specs.declared.Row.{Row}
 
 -- "As one 32-bit word Valid is the lowest byte"
 abbrev pub word_from : ℕ → ℕ → ℕ → ℕ → ℕ
@@ -30,8 +29,15 @@ abbrev pub on_side : {A : Type 0} → Side → A → A → A
 on_side Left left right = left
 on_side Right left right = right
 
+-- a row of the table: the word of LEFT, the word of RIGHT, their state and the live side
+pub record Row : Type 0 where
+  pub left : ℕ
+  pub right : ℕ
+  pub state : State
+  pub live : Side
+
 abbrev pub row : ℕ → ℕ → State → Side → Row
-row left right state live = record { 0 = left; 1 = right; 2 = state; 3 = live }
+row left right state live = record { left = left; right = right; state = state; live = live }
 
 -- the table of "Which page is live": the word of LEFT, the word of RIGHT, the state, the live side;
 -- S1 is lines 1 and 4, which hold the same words
@@ -50,11 +56,11 @@ table =
 
 -- the row holds this pair of words
 abbrev pub hits : Row → ℕ → ℕ → Bool
-hits x l r = eqb x.0 l && eqb x.1 r
+hits x l r = eqb x.left l && eqb x.right r
 
 -- the state and live side of a row that holds the words, else those given
 abbrev pub picked : Row → ℕ → ℕ → Status → Status
-picked x l r rest = cond (hits x l r) (record { state = x.2; live = Some x.3 }) rest
+picked x l r rest = cond (hits x l r) (record { state = x.state; live = Some x.live }) rest
 
 -- the state and live side of the row that holds a pair of words; "0: any other pair", none live
 unfoldable pub look : List Row → ℕ → ℕ → Status

@@ -35,6 +35,7 @@ pub enum Side {
 
 impl Side {
     // Of two things, one for each side, the one of this side.
+    // Nearly all that depends on a side goes by this match.
     pub fn pick<T: Copy>(self, left: T, right: T) -> T
         ensures { result ≡ on_side self left right }
     {
@@ -52,14 +53,30 @@ impl Side {
     }
 }
 
+// Two lent pages, to be looked at. Pages that are lent for writing are handed on side by side: of a struct
+// of two `&mut` every promise would have to say that it still leads to the same two pages
+// (`pair.new.left.ghost_name ≡ pair.old.left.ghost_name`, and so of RIGHT), and no function can lend one
+// of them by its side.
+#[derive(Clone, Copy)]
+pub struct Pair<'a> {
+    pub left: &'a [u8],
+    pub right: &'a [u8],
+}
+
+impl<'a> Pair<'a> {
+    // The page of a side.
+    pub fn on(self, side: Side) -> &'a [u8]
+        ensures { result.now ≡ on_side side self.entry.left.now self.entry.right.now }
+    {
+        side.pick(self.left, self.right)
+    }
+}
+
 impl fmt::Display for Side {
     ghost output = { λ side. Some (on_side side (codes "LEFT") (codes "RIGHT")) };
 
     fn fmt<W: fmt::Write>(&self, f: &mut fmt::Formatter<W>) -> fmt::Result {
-        match self {
-            Side::Left => write!(f, "LEFT"),
-            Side::Right => write!(f, "RIGHT"),
-        }
+        f.write_str(self.pick("LEFT", "RIGHT"))
     }
 }
 
@@ -67,16 +84,16 @@ impl fmt::Display for Side {
 // 1 and 4, which hold the same words; S0 is every pair that is in no other line.
 #[derive(Clone, Copy, Debug, PartialEq, Eq)]
 pub enum State {
-    S0,
-    S1,
-    S2,
-    S3,
-    S5,
-    S6,
-    S7,
-    S8,
-    S9,
-    S10,
+    S0 = 0,
+    S1 = 1,
+    S2 = 2,
+    S3 = 3,
+    S5 = 5,
+    S6 = 6,
+    S7 = 7,
+    S8 = 8,
+    S9 = 9,
+    S10 = 10,
 }
 
 impl State {
@@ -84,18 +101,7 @@ impl State {
     pub fn line(self) -> u8
         ensures { result ≡ line_of self }
     {
-        match self {
-            State::S0 => 0,
-            State::S1 => 1,
-            State::S2 => 2,
-            State::S3 => 3,
-            State::S5 => 5,
-            State::S6 => 6,
-            State::S7 => 7,
-            State::S8 => 8,
-            State::S9 => 9,
-            State::S10 => 10,
-        }
+        self as u8
     }
 
     // The state with a line number. No state has 4, which is line 1.
@@ -118,20 +124,14 @@ impl State {
     }
 
     // The live side at this line, if there is one.
+    #[tactic(auto, unfolding(crate::specs::Pages::live_of))]
     pub fn live(self) -> Option<Side>
         ensures { result ≡ live_of self }
     {
         match self {
             State::S0 => None,
-            State::S1 => Some(Side::Left),
-            State::S2 => Some(Side::Left),
-            State::S3 => Some(Side::Left),
-            State::S5 => Some(Side::Right),
-            State::S6 => Some(Side::Right),
-            State::S7 => Some(Side::Right),
-            State::S8 => Some(Side::Right),
-            State::S9 => Some(Side::Left),
-            State::S10 => Some(Side::Left),
+            State::S1 | State::S2 | State::S3 | State::S9 | State::S10 => Some(Side::Left),
+            State::S5 | State::S6 | State::S7 | State::S8 => Some(Side::Right),
         }
     }
 }
@@ -142,11 +142,6 @@ pub struct Status {
     pub state: State,
     pub live: Option<Side>,
 }
-
-// A row of the table: the word of LEFT, the word of RIGHT, their state and the live side. Without names
-// a row stands on one line, as in the paper's table.
-#[derive(Clone, Copy, Debug, PartialEq, Eq)]
-pub struct Row(pub u32, pub u32, pub State, pub Side);
 
 // The byte at a place, or 0 past the end.
 fn byte_at(page: &[u8], at: usize) -> u8
@@ -193,20 +188,13 @@ pub struct PageOffset(pub u32);
 #[derive(Clone, Copy, Debug, PartialEq, Eq)]
 pub struct ImageOffset(pub u32);
 
-// The last offset of 32 bits.
-const LAST_OFFSET: u32 = 4294967295;
-
 impl ImageOffset {
     // The page offset of the same byte: the one place where 4 is added or taken. Past 32 bits it
     // stays at the last offset, where no page has a byte.
+    #[tactic(auto, unfolding(crate::specs::Offsets::to_page))]
     pub fn to_page(self) -> PageOffset
         ensures { result ≡ to_page self }
     {
-        let inside = self.0;
-        if LAST_OFFSET - MANAGEMENT_SIZE < inside {
-            return PageOffset(LAST_OFFSET);
-        }
-        let place = MANAGEMENT_SIZE + inside;
-        PageOffset(place)
+        PageOffset(self.0.saturating_add(MANAGEMENT_SIZE))
     }
 }

@@ -74,12 +74,12 @@ shown current then xs l r g = subst (λ (i : MaybeImage). Good i then xs l r) (s
 -- a save begun at a line other than 0, from what is Good of the bytes of its row
 begin_at : (st : State) (l r new current : List ℕ) → Sized l r new → (status_of l r).state ≡ st → (line_of st ≡ 0 → ⊥)
     → Good (Some current) (Some new)
-    (saves_list st new (bytes_of (row_of st).0 (drop 4 l)) (bytes_of (row_of st).1 (drop 4 r)))
-    (bytes_of (row_of st).0 (drop 4 l)) (bytes_of (row_of st).1 (drop 4 r))
+    (saves_list st new (bytes_of (row_of st).left (drop 4 l)) (bytes_of (row_of st).right (drop 4 r)))
+    (bytes_of (row_of st).left (drop 4 l)) (bytes_of (row_of st).right (drop 4 r))
     → Saves st new l r
 begin_at st l r new current z e h g =
-    let x = bytes_of (row_of st).0 (drop 4 l) in
-    let y = bytes_of (row_of st).1 (drop 4 r) in
+    let x = bytes_of (row_of st).left (drop 4 l) in
+    let y = bytes_of (row_of st).right (drop 4 r) in
     let n : length l ≡ 4 + length new = z.left in
     let m : length r ≡ 4 + length new = z.right in
     from_row (Saves st new) l r st z.bytes_left z.bytes_right (omega arith) (omega arith) e h

@@ -87,15 +87,6 @@ good_final current then (x ∷ xs) l r g =
     good_final (switch x.commits current then) then xs (tried x.step l r).left (tried x.step l r).right
     g.3
 
-stays_then : (then : MaybeImage) (xs : List Entry) → final then then xs ≡ then
-unfolding final
-stays_then then [] = refl
-stays_then then (x ∷ xs) = ap (λ (i : MaybeImage). final i then xs) (go x.commits) ∙ stays_then then xs
-  where
-    go : (t : Bool) → switch t then then ≡ then
-    go true = refl
-    go false = refl
-
 -- a list that decides in its last part leaves the image then
 decides_last : (current then : MaybeImage) (xs ys : List Entry) → ((i : MaybeImage) → final i then ys ≡ then)
     → final current then (xs ++ ys) ≡ then

@@ -11,14 +11,13 @@ use lib.ListN.{length, get_or, get_or-append}
 use Rattle.images.proofs.Overlay.{get_d_later}
 use Rattle.flash.specs.Flash.{cell_number, cell_at}
 use Rattle.pages.specs.declared.Side.{Side}
-use Rattle.pages.specs.declared.Side.TheVariants.{Left, Right}
+use Rattle.pages.specs.declared.Side.TheVariants.{Right}
 use Rattle.pages.specs.declared.State.{State}
 use Rattle.pages.specs.declared.State.TheVariants.{S0, S1, S2, S3, S5, S6, S7, S8, S9, S10}
 use Rattle.pages.specs.declared.ImageOffset.{ImageOffset}
 use Rattle.pages.specs.Pages.{line_of, live_of}
-use Rattle.pages.proofs.Laws.{line_same}
 use Rattle.steps.specs.declared.Step.{Step}
-use Rattle.steps.specs.declared.Step.TheVariants.{Image, Erase}
+use Rattle.steps.specs.declared.Step.TheVariants.{Image}
 use Rattle.plans.specs.declared.Request.TheVariants.{Save, Format}
 use Rattle.plans.specs.declared.Entry.{Entry}
 use Rattle.plans.specs.Plans.{entry, committing, mark, counts, ready, erases_both, target, clean, cells, first_cell, marks, saving, formatting, nothing}

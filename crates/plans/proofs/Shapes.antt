@@ -21,8 +21,7 @@ use Rattle.pages.specs.declared.Side.TheVariants.{Left, Right}
 use Rattle.pages.specs.declared.State.{State}
 use Rattle.pages.specs.declared.State.TheVariants.{S0, S1, S2, S3, S5, S6, S7, S8, S9, S10}
 use Rattle.pages.specs.declared.Status.{Status}
-use Rattle.pages.specs.declared.Row.{Row}
-use Rattle.pages.specs.Pages.{on_side, word_from, word_of, table, look, line_of, row_of, status_of}
+use Rattle.pages.specs.Pages.{Row, on_side, word_from, word_of, table, look, line_of, row_of, status_of}
 use Rattle.pages.proofs.Table.{All, words_of}
 use Rattle.steps.specs.Steps.{Tried, on_page}
 use Rattle.images.specs.Images.{image_on, live_image}
@@ -71,12 +70,12 @@ shaped l w h k e = by_word l h k ∙ ap (λ (x : ℕ). bytes_of x (drop 4 l)) e
 -- pages of bytes at a line other than 0 are the bytes of its row before their images
 pub from_row : (P : List ℕ → List ℕ → Type 0) (l r : List ℕ) (st : State) → Bytes l → Bytes r → 4 ≤ length l
     → 4 ≤ length r → (status_of l r).state ≡ st → (line_of st ≡ 0 → ⊥)
-    → P (bytes_of (row_of st).0 (drop 4 l)) (bytes_of (row_of st).1 (drop 4 r)) → P l r
+    → P (bytes_of (row_of st).left (drop 4 l)) (bytes_of (row_of st).right (drop 4 r)) → P l r
 from_row P l r st bl br nl nr e h p =
     let w = words_of l r st e h in
-    let a : l ≡ bytes_of (row_of st).0 (drop 4 l) = shaped l (row_of st).0 bl nl w.0 in
-    let b : r ≡ bytes_of (row_of st).1 (drop 4 r) = shaped r (row_of st).1 br nr w.1 in
-    subst (λ (k : List ℕ). P k r) (sym a) (subst (P (bytes_of (row_of st).0 (drop 4 l))) (sym b) p)
+    let a : l ≡ bytes_of (row_of st).left (drop 4 l) = shaped l (row_of st).left bl nl w.0 in
+    let b : r ≡ bytes_of (row_of st).right (drop 4 r) = shaped r (row_of st).right br nr w.1 in
+    subst (λ (k : List ℕ). P k r) (sym a) (subst (P (bytes_of (row_of st).left (drop 4 l))) (sym b) p)
 
 -- ---- marks
 abbrev made_as : List ℕ → Outcome
@@ -215,7 +214,7 @@ shows_none st l r h = ap (λ (z : Status). image_on z.live l r) h
 
 -- ---- a spoiled RIGHT: its word is in no row, whatever LEFT holds
 abbrev High : Row → Type 0
-High x = ltb 65535 x.1 ≡ true
+High x = ltb 65535 x.right ≡ true
 
 high : All High table
 high = search tt
@@ -228,10 +227,10 @@ low_word : (xs : List Row) → All High xs → (l r : ℕ) → r < 65536 → loo
 unfolding look
 low_word [] h l r k = refl
 low_word (x ∷ xs) h l r k =
-    let b : 65535 < x.1 = ltb-true 65535 x.1 h.0 in
-    ap (λ (t : Bool). cond (eqb x.0 l && t) (record { state = x.2; live = Some x.3 }) (look xs l r))
-    (ne_eqb x.1 r (λ e. omega arith))
-    ∙ no_hit (eqb x.0 l) (record { state = x.2; live = Some x.3 }) (look xs l r) ∙ low_word xs h.1 l r k
+    let b : 65535 < x.right = ltb-true 65535 x.right h.0 in
+    ap (λ (t : Bool). cond (eqb x.left l && t) (record { state = x.state; live = Some x.live }) (look xs l r))
+    (ne_eqb x.right r (λ e. omega arith))
+    ∙ no_hit (eqb x.left l) (record { state = x.state; live = Some x.live }) (look xs l r) ∙ low_word xs h.1 l r k
 
 pub at_spoiled : (l : List ℕ) (a b : ℕ) (x : List ℕ) → a < 256 → b < 256
     → status_of l (a ∷ b ∷ 0 ∷ 0 ∷ x) ≡ at S0 None

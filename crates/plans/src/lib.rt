@@ -23,6 +23,7 @@ pub enum Request {
 pub struct Entry {
     pub state: State,
     pub step: Step,
+    // A plain yes or no of the paper, with no value that goes with it.
     pub commits: bool,
 }
 
@@ -45,12 +46,14 @@ pub enum Spot {
 pub struct Plan {
     pub request: Request,
     pub start: State,
+    // The paper's erased-or-not, with no value that goes with it.
     pub erased: bool,
     pub page: u32,
 }
 
 impl Plan {
     // How many steps the list has.
+    #[tactic(auto, using(crate::proofs::Counts::bound))]
     pub fn step_count(self) -> u32
         ensures { result ≡ step_count self.request self.start self.erased self.page }
     {
@@ -63,18 +66,21 @@ impl Plan {
 
 // ---- how many steps
 // What a save's steps are more than its image cells, 3 of them after these and the others before.
+// Erased or not stands first: compiled, that is a small table for each and no jump, which every step of
+// a save would make twice. The paper counts by line and erased-or-not, so a yes or no is handed over.
 pub fn added_steps(start: State, erased: bool) -> u32
     ensures { result ≡ added start erased }
 {
-    match (start, erased) {
-        (State::S0 | State::S1 | State::S8, true) => 3,
-        (State::S1 | State::S3 | State::S7 | State::S8, _) => 4,
-        (State::S2 | State::S6 | State::S10, _) => 5,
-        (State::S0 | State::S5 | State::S9, _) => 6,
+    match (erased, start) {
+        (true, State::S0 | State::S1 | State::S8) => 3,
+        (_, State::S1 | State::S3 | State::S7 | State::S8) => 4,
+        (_, State::S2 | State::S6 | State::S10) => 5,
+        (_, State::S0 | State::S5 | State::S9) => 6,
     }
 }
 
 // The steps of a format: none where both pages are erased.
+// As in `added_steps`, erased-or-not is the paper's yes or no.
 fn format_steps(start: State, erased: bool) -> u32
     ensures { result ≡ format_count start erased }
 {

@@ -161,10 +161,7 @@ impl fmt::Display for Printable<'_> {
 // ---- how long a run takes
 // How many seconds of the processor's time the run has taken, 0 where that isn't known.
 fn seconds(rt: HostRuntime) -> u64 {
-    match rt.process_cpu_time() {
-        Ok(time) => time.as_secs(),
-        Err(_) => 0,
-    }
+    rt.process_cpu_time().map_or(0, |time| time.as_secs())
 }
 
 // Says on standard error at which line of a script a run is, every two seconds, and gives the second

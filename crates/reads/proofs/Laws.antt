@@ -2,11 +2,10 @@
 -- In order: where a read finds its bytes; what follows of its number, of the part and of the output.
 -- Not here: laws of numbers 1 to 4 (the crate requests) and of flash (flash). Assumes nothing.
 use Rattle.std.specs.Prelude.{Option, Some, None, Result, Ok, Err, ok_or}
-use Prim.Native.Nat.{ℕ, ◌+◌, ◌-◌, min}
+use Prim.Native.Nat.{ℕ, min}
 use mathlib.Core.Path.{◌≡◌, refl, sym, ap, ◌∙◌}
 use mathlib.Core.Bool.{Bool, cond}
 use mathlib.Core.List.{List, [], ◌++◌, append-nil}
-use native.Mathlib.Nat.{add-sub_cancel_left}
 use native.Mathlib.Omega.{arith}
 use lib.Dec.{eqb}
 use lib.ListN.{length, take, drop, length-drop}
@@ -155,11 +154,6 @@ pub on_part : (l r : List ℕ) (o : PageOffset) (n : ℕ) (s : Side) → live_on
 unfolding read_part
 on_part l r o n s e = sym (simp (on_number l r o n s e, on_live l r o n s e))
 
--- the bytes from o to o + n of the page on a side
-pub side_part : (l r : List ℕ) (o : PageOffset) (n : ℕ) (s t : Side) → s ≡ t
-    → take (o.0 + n - o.0) (drop o.0 (on_side t l r)) ≡ take n (drop o.0 (on_side s l r))
-side_part l r o n s t e = rw (add-sub_cancel_left o.0 n, e)
-
 -- a page of a legal request holds the asked bytes
 side_length : (l r : List ℕ) (s : Side) → length l ≡ length r → length (on_side s l r) ≡ length l
 side_length l r Left e = refl
@@ -234,6 +228,19 @@ pub blank : (l r : List ℕ) (o : PageOffset) (out bytes : List ℕ)
 unfolding output_after
 blank l r o out bytes e h =
     filling l r o 5 out bytes (found_number l r o (length out) none_live e) h
+
+-- the two by the error that was found
+pub kept_at : (l r : List ℕ) (o : PageOffset) (out : List ℕ) (e : ReadError) → (e ≡ NoLive → ⊥)
+    → found_in (Err e) ≡ located l r o (length out)
+    → ◌≡◌ {A = Outcome} (record { number = error_number e; bytes = out }) (filled l r o out)
+kept_at l r o out (Refused why) h p = kept l r o out why p
+kept_at l r o out NoLive h p = absurd (h refl)
+
+pub blank_at : (l r : List ℕ) (o : PageOffset) (out bytes : List ℕ) (e : ReadError) → e ≡ NoLive
+    → found_in (Err e) ≡ located l r o (length out) → bytes ≡ erasure out
+    → ◌≡◌ {A = Outcome} (record { number = error_number e; bytes = bytes }) (filled l r o out)
+blank_at l r o out bytes (Refused why) h p q = absurd (cc)
+blank_at l r o out bytes NoLive h p q = blank l r o out bytes p q
 
 pub given : (l r : List ℕ) (o : PageOffset) (s : Side) (out src bytes : List ℕ)
     → live_on s ≡ located l r o (length out)

@@ -21,7 +21,7 @@ ghost use Rattle.reads.specs.Reads.{
   filled,
 };
 
-use pages::{PageOffset, Side};
+use pages::{PageOffset, Pair, Side};
 use requests::Refusal;
 
 // Why a read gives nothing: the request is refused, or no page is live.
@@ -62,67 +62,65 @@ pub fn number_of(reading: Result<(), ReadError>) -> u8
 }
 
 // The side on which a read of so many bytes from the page offset on finds them; no byte is copied.
-pub fn locate(left: &[u8], right: &[u8], offset: PageOffset, len: usize) -> Result<Side, ReadError>
+pub fn locate(pair: Pair<'_>, offset: PageOffset, len: usize) -> Result<Side, ReadError>
     ensures { ◌≡◌ {A = Located} (found_in result)
-        (located left.now right.now offset len) }
+        (located pair.entry.left.now pair.entry.right.now offset len) }
 {
-    requests::check_request(left.len(), right.len(), offset, len)?;
-    table::status_of(left, right).live.ok_or(ReadError::NoLive)
+    requests::check_request(pair.left.len(), pair.right.len(), offset, len)?;
+    table::status_of(pair).live.ok_or(ReadError::NoLive)
 }
 
 // The asked bytes of the page on a side.
-fn part<'a>(left: &'a [u8], right: &'a [u8], side: Side, offset: PageOffset, len: usize) -> &'a [u8]
-    requires { (offset.0 + len ≤ length left.now) × (offset.0 + len ≤ length right.now) }
+fn part(pair: Pair<'_>, side: Side, offset: PageOffset, len: usize) -> &[u8]
+    requires { (offset.0 + len ≤ length pair.left.now)
+        × (offset.0 + len ≤ length pair.right.now) }
     ensures { result.now
-        ≡ take len (drop offset.0 (on_side side left.now right.now)) }
+        ≡ take len
+        (drop offset.0 (on_side side pair.entry.left.now pair.entry.right.now)) }
 {
     let start = offset.0 as usize;
     let end = start + len;
-    &side.pick(left, right)[start..end]
+    &pair.on(side)[start..end]
 }
 
 // How a read of a part is answered; no byte is copied.
-pub fn check_read(left: &[u8], right: &[u8], offset: PageOffset, len: u32) -> Result<(), ReadError>
-    ensures { number_in result ≡ read_number left.now right.now offset len }
+pub fn check_read(pair: Pair<'_>, offset: PageOffset, len: u32) -> Result<(), ReadError>
+    ensures { number_in result
+        ≡ read_number pair.entry.left.now pair.entry.right.now offset len }
 {
-    locate(left, right, offset, len as usize)?;
+    locate(pair, offset, len as usize)?;
     Ok(())
 }
 
 // The asked part of the live page itself, with no copy; empty on every refusal.
-pub fn read<'a>(left: &'a [u8], right: &'a [u8], offset: PageOffset, len: u32) -> &'a [u8]
-    ensures { result.now ≡ read_part left.now right.now offset len }
+pub fn read(pair: Pair<'_>, offset: PageOffset, len: u32) -> &[u8]
+    ensures { result.now
+        ≡ read_part pair.entry.left.now pair.entry.right.now offset len }
 {
     let size = len as usize;
-    match locate(left, right, offset, size) {
-        Ok(side) => part(left, right, side, offset, size),
-        Err(_) => &left[..0],
+    match locate(pair, offset, size) {
+        Ok(side) => part(pair, side, offset, size),
+        Err(_) => &[],
     }
 }
 
 // Fills a lent output with the bytes from the offset on, as many as it has. Numbers 1 to 4 leave it
 // as it was; 5 fills it with FF.
-pub fn read_into<'a>(
-    left: &'a [u8],
-    right: &'a [u8],
-    offset: PageOffset,
-    out: &mut [u8],
-) -> Result<(), ReadError>
+pub fn read_into(pair: Pair<'_>, offset: PageOffset, out: &mut [u8]) -> Result<(), ReadError>
     ensures { ◌≡◌ {A = Outcome} (record { number = number_in result; bytes = out.new })
-        (filled left.now right.now offset out.old) }
+        (filled pair.entry.left.now pair.entry.right.now offset out.old) }
 {
     let size = out.len();
-    match locate(left, right, offset, size) {
+    match locate(pair, offset, size) {
         Ok(side) => {
-            copies::copy(part(left, right, side, offset, size), out);
+            copies::copy(part(pair, side, offset, size), out);
             Ok(())
         }
-        Err(error) => match error {
-            ReadError::Refused(why) => Err(ReadError::Refused(why)),
-            ReadError::NoLive => {
+        Err(error) => {
+            if let ReadError::NoLive = error {
                 flash::erase(out);
-                Err(ReadError::NoLive)
             }
-        },
+            Err(error)
+        }
     }
 }

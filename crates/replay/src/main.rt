@@ -5,6 +5,7 @@
 
 ghost use Rattle.std.specs.Prelude.{◌≤◌};
 
+use answers::Steps;
 use arguments::{Argument, Name, Word};
 use loads::Source;
 use prints::Output;
@@ -26,11 +27,10 @@ enum Task {
     Replay(Lines, Files),
 }
 
-// Which lines a replay has: one for a run of image cells, all, or the cuts.
+// Which lines a replay has: those of the calls, or the cuts.
 #[derive(Clone, Copy)]
 enum Lines {
-    Folded,
-    All,
+    Calls(Steps),
     Cuts,
 }
 
@@ -118,9 +118,9 @@ impl Task {
             Word::Help => Ok(Task::Help),
             Word::Version => Ok(Task::Version),
             Word::Crowded => Err(Error::Usage),
-            Word::All => Ok(Task::Replay(Lines::All, Files::from_arguments(rt, 2)?)),
+            Word::All => Ok(Task::Replay(Lines::Calls(Steps::Each), Files::from_arguments(rt, 2)?)),
             Word::Cuts => Ok(Task::Replay(Lines::Cuts, Files::from_arguments(rt, 2)?)),
-            _ => Ok(Task::Replay(Lines::Folded, Files::from_arguments(rt, 1)?)),
+            _ => Ok(Task::Replay(Lines::Calls(Steps::Folded), Files::from_arguments(rt, 1)?)),
         }
     }
 }
@@ -148,20 +148,17 @@ fn replay<'a>(
     let Files { source, script } = files;
     let mut left_room = loads::page_buffer();
     let mut right_room = loads::page_buffer();
-    let (left, right) = source.load(rt, &mut left_room, &mut right_room)?;
+    let pair = source.load(rt, &mut left_room, &mut right_room)?;
     let text = load_script(rt, script, room)?;
-    let all = match lines {
-        Lines::Folded => false,
-        Lines::All => true,
-        Lines::Cuts => {
-            return match cuts::run(out, source, text, left, right) {
-                Some(_) => Ok(()),
-                None => Err(Error::NoWalk(script)),
-            };
+    match lines {
+        Lines::Calls(steps) => {
+            let _ = write!(out, "{source}\nP = {}", pair.left.len());
+            timelines::run(out, text, pair, steps);
         }
-    };
-    let _ = write!(out, "{source}\nP = {}", left.len());
-    timelines::run(out, text, left, right, all);
+        Lines::Cuts => {
+            cuts::run(out, source, text, pair).ok_or(Error::NoWalk(script))?;
+        }
+    }
     Ok(())
 }
 

@@ -1,7 +1,6 @@
 -- Writing to the output.
 -- In order: bytes written one after another; answers; bytes lent where they were laid in.
 -- Assumes nothing.
-use Rattle.std.specs.Prelude.{None}
 use Prim.Native.Nat.{ℕ, ◌+◌, ◌-◌, ◌≤◌}
 use mathlib.Core.Path.{◌≡◌, refl, sym, ap, subst, ◌∙◌}
 use mathlib.Core.List.{List, [], ◌∷◌, ◌++◌, append-nil}

@@ -8,7 +8,7 @@
 ghost use Rattle.std.specs.Prelude.{◌+◌, ◌≤◌, ◌≡◌, length, replicate};
 ghost use Rattle.model.specs.Board.{powered};
 ghost use Rattle.model.specs.Orders.{held_in};
-ghost use Rattle.boards.specs.Boards.{hand_in, held_after};
+ghost use Rattle.boards.specs.Boards.{hand_in};
 ghost use Rattle.scripts.specs.Scripts.{item_in, found, checked};
 ghost use Rattle.replays.specs.Runs.{
   code_of,
@@ -28,10 +28,11 @@ ghost use Rattle.replays.specs.Runs.{
 ghost use Rattle.replays.specs.Replays.{Outcome, report_in, replayed};
 
 use boards::{Answer, Call, Turn};
+use pages::Pair;
 use scripts::{Item, ScriptError};
 use walks::Walk;
 
-// The first byte of each answer that isn't a number.
+// The first byte of each answer that isn't a number, as the layout has it.
 const NOTHING: u8 = 0x00;
 
 const BEGUN: u8 = 0x10;
@@ -49,6 +50,7 @@ const BEFORE_OUTPUT: usize = 2;
 
 // ---- bytes of the output
 // Writes bytes from a place on; gives the place after them.
+#[tactic(auto, using(crate::proofs::Output::put_written))]
 fn put(out: &mut [u8], at: usize, bytes: &[u8]) -> usize
     requires { at + length bytes.now ≤ length out.old }
     ensures { ◌≡◌ {A = Written} (record { out = out.new; at = result })
@@ -60,6 +62,7 @@ fn put(out: &mut [u8], at: usize, bytes: &[u8]) -> usize
 }
 
 // Writes the same byte, so many times.
+#[tactic(auto, using(crate::proofs::Output::filled_part, crate::proofs::Output::put_written))]
 fn put_all(out: &mut [u8], at: usize, count: u32, byte: u8) -> usize
     requires { at + count ≤ length out.old }
     ensures { ◌≡◌ {A = Written} (record { out = out.new; at = result })
@@ -97,36 +100,32 @@ fn last_of(turn: Turn, times: u32) -> Answer
     }
 }
 
-// The data of the walk in hand after an answer: the call's own where it began that walk.
-fn held_after<'a>(last: Answer, own: &'a [u8], held: &'a [u8]) -> &'a [u8]
-    ensures { result.now ≡ held_after last own.now held.now }
-{
-    match last {
-        Answer::Begun => own,
-        _ => held,
-    }
+// So many answers, of which the first are steps made and all others the last one.
+#[derive(Clone, Copy)]
+struct Replies {
+    times: u32,
+    made: u32,
+    last: Answer,
 }
 
-// Writes so many answers, of which the first are steps made and all others the last one, up to an
-// output; gives the place after them.
-fn put_answers(
-    last: Answer,
-    made: u32,
-    times: u32,
-    left: &[u8],
-    right: &[u8],
-    out: &mut [u8],
-    at: usize,
-) -> usize
-    requires { (made ≤ times)
-        × (at + length (replies_in times made last left.now right.now) ≤ length out.old) }
+// Writes answers up to an output, a part from these pages; gives the place after them.
+fn put_answers(replies: Replies, pair: Pair<'_>, out: &mut [u8], at: usize) -> usize
+    requires { (replies.made ≤ replies.times)
+        × (at
+        + length
+        (replies_in replies.times replies.made replies.last pair.left.now pair.right.now)
+        ≤ length out.old) }
     ensures { ◌≡◌ {A = Written} (record { out = out.new; at = result })
-        (written out.old at (replies_in times made last left.now right.now)) }
+        (written out.old at
+        (replies_in replies.times replies.made replies.last
+        pair.entry.left.now
+        pair.entry.right.now)) }
 {
+    let Replies { times, made, last } = replies;
     let rest = put_all(out, at, made, MADE);
     let end = put_all(out, rest, times - made, code_of(last));
     match last {
-        Answer::Part(offset, len) => put(out, end, reads::read(left, right, offset, len)),
+        Answer::Part(offset, len) => put(out, end, reads::read(pair, offset, len)),
         Answer::Output(number) => put(out, end, &[number]),
         _ => end,
     }
@@ -212,6 +211,7 @@ impl<'a> Ran<'a> {
 
     // Makes the calls of an item and writes their answers. An output is laid in where it stands in
     // its answer, and lent from there.
+    // Both pages lent for writing go side by side, as `pages::Pair` says.
     fn make(&mut self, item: Item<'a>, left: &mut [u8], right: &mut [u8], out: &mut [u8])
         requires { self.old.at + (item_in item).room ≤ length out.old }
         ensures { run_in self.new left.new right.new out.new
@@ -232,8 +232,13 @@ impl<'a> Ran<'a> {
         );
         let last = last_of(turn, job.times);
         self.hand = turn.hand;
-        self.held = held_after(last, job.bytes, self.held);
-        let after = put_answers(last, turn.made, job.times, left, right, out, self.at);
+        self.held = last.kept(job.bytes, self.held);
+        let replies = Replies {
+            times: job.times,
+            made: turn.made,
+            last,
+        };
+        let after = put_answers(replies, Pair { left, right }, out, self.at);
         self.at = after + job.output.len();
     }
 }
@@ -254,7 +259,7 @@ fn run<'a>(left: &mut [u8], right: &mut [u8], script: &'a [u8], out: &mut [u8]) 
         at: 0,
     };
     let mut place = 0;
-    // Calls differ in size, so no `for` and no `chunks` goes over them.
+    // Calls differ in size, so no `for` and no `chunks` goes over them, and no iterator, as in `scripts::check`.
     while let Some(item) = scripts::item_at(script, place) {
         ran.make(item, left, right, out);
         place += item.size();

@@ -11,20 +11,7 @@ use Rattle.pages.specs.declared.PageOffset.{PageOffset}
 use Rattle.flash.specs.Flash.{is_even}
 use Rattle.requests.specs.declared.Refusal.{Refusal}
 use Rattle.requests.specs.declared.Refusal.TheVariants.{PageLength, OddRequest, InManagement, PastEnd}
-use Rattle.requests.specs.Numbers.{
-  number_of,
-  wrong_lengths,
-  wrong_pages,
-  odd_request,
-  below_image,
-  past_end,
-  end_number,
-  span_number,
-  request_number,
-  number_within,
-  lengths_number,
-  pages_number,
-}
+use Rattle.requests.specs.Numbers.{number_of, wrong_lengths, wrong_pages, odd_request, below_image, past_end, end_number, span_number, request_number, lengths_number, pages_number}
 use Rattle.requests.specs.Legal.{RightPages, Legal}
 
 -- ---- from facts to each case

@@ -21,10 +21,10 @@ use pages::PageOffset;
 // Why a request is refused, whatever the pages hold: document 01's numbers 1 to 4.
 #[derive(Clone, Copy, Debug, PartialEq, Eq)]
 pub enum Refusal {
-    PageLength,
-    OddRequest,
-    InManagement,
-    PastEnd,
+    PageLength = 1,
+    OddRequest = 2,
+    InManagement = 3,
+    PastEnd = 4,
 }
 
 impl Refusal {
@@ -32,12 +32,7 @@ impl Refusal {
     pub fn number(self) -> u8
         ensures { result ≡ number_of self }
     {
-        match self {
-            Refusal::PageLength => 1,
-            Refusal::OddRequest => 2,
-            Refusal::InManagement => 3,
-            Refusal::PastEnd => 4,
-        }
+        self as u8
     }
 }
 
@@ -95,6 +90,7 @@ fn check_span(page: usize, offset: PageOffset, len: usize) -> Result<(), Refusal
 // Numbers 1 to 4, in their order, from the lengths of the pages, the least and the greatest that a
 // page may have, the offset and the length asked for. No byte of a page is looked at.
 #[tactic(auto, unfolding(crate::specs::Numbers::wrong_lengths))]
+// Two limits by themselves, as the definition of number 1 has them.
 pub fn check_within(
     left: usize,
     right: usize,

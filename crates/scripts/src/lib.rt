@@ -19,7 +19,8 @@ use pages::PageOffset;
 // How many bytes a call takes, not counting those of its own.
 const HEAD_SIZE: usize = 9;
 
-// The kinds of calls, by their numbers in the layout.
+// The kinds of calls, by their numbers in the layout. `item_of` alone matches them and gives the call, so no
+// enum of kinds stands between.
 const SAVE: u8 = 1;
 
 const FORMAT: u8 = 2;
@@ -119,12 +120,14 @@ pub enum ScriptError {
 }
 
 // Checks a whole script against the room for its answers.
+#[tactic(auto, using(crate::proofs::Laws::check_bad, crate::proofs::Laws::check_end, crate::proofs::Laws::check_full))]
 pub fn check(script: &[u8], room: usize) -> Result<(), ScriptError>
     ensures { verdict_in result ≡ found (checked script.now room) }
 {
     let mut at = 0;
     let mut left = room;
-    // Calls differ in size, so no `for` and no `chunks` goes over them.
+    // Calls differ in size, so no `for` and no `chunks` goes over them. An iterator's `next` would have to say
+    // of the script what `first_of` says, and hand out each place, which a refusal tells: more than is here.
     while at < script.len() {
         let item = item_at(script, at).ok_or(ScriptError::Malformed(at))?;
         let need = item.room();

@@ -106,13 +106,13 @@ pub made_one : (text : List ℕ) (call : Call) (own begins : ℕ) (s : Session) 
     → length out' ≡ size
     → (turn_in call (turn_of t) (data_at text s.began) (data_at text own) l' r' out'
     ≡ made_on call (board_in s.hand (data_at text s.began) l r) (data_at text own) out)
-    × (t.began ≡ began_after t.answer begins s.began)
-    → a ≡ made_or t.made t.answer
+    × (t.began ≡ began_after t.turn.answer begins s.began)
+    → a ≡ made_or t.turn.made t.turn.answer
     → (c : C.Call) → calls_in call (data_at text own) out ≡ c ∷ []
     → let u = turn (board_in s.hand (data_at text s.began) l r) c in
     next_in text
     (record {
-      session = record { hand = t.hand; began = t.began; at = place; left = 0 };
+      session = record { hand = t.turn.hand; began = t.began; at = place; left = 0 };
       times = 1;
       answer = a;
       len = size;
@@ -124,18 +124,18 @@ made_one text call own begins s place t a l r l' r' out out' size n hb es e ea c
     let et = e.0 in
     let held = data_at text s.began in
     let b = board_in s.hand held l r in
-    let first : answers_in 1 t.made (answer_in t.answer l' r' out') ≡ (turn b c).answer ∷ [] =
-    ap (λ (m : ℕ). answers_in m t.made (answer_in t.answer l' r' out')) (sym n)
+    let first : answers_in 1 t.turn.made (answer_in t.turn.answer l' r' out') ≡ (turn b c).answer ∷ [] =
+    ap (λ (m : ℕ). answers_in m t.turn.made (answer_in t.turn.answer l' r' out')) (sym n)
     ∙ ap (λ (x : Made). x.answers) et ∙ ap (answers b) ec in
     let whole : take size out' ≡ out' = ap (λ (k : ℕ). take k out') (sym es) ∙ take-length out' in
     let answer : answer_in a l' r' (take size out') ≡ (turn b c).answer =
-    (λ i. answer_in (ea i) l' r' (whole i)) ∙ only_answer t.made t.answer l' r' out' (turn b c).answer first in
-    let after : board_in t.hand (held_after t.answer (own_of call (data_at text own)) held) l' r' ≡ (turn b c).board =
+    (λ i. answer_in (ea i) l' r' (whole i)) ∙ only_answer t.turn.made t.turn.answer l' r' out' (turn b c).answer first in
+    let after : board_in t.turn.hand (held_after t.turn.answer (own_of call (data_at text own)) held) l' r' ≡ (turn b c).board =
     ap (λ (x : Made). x.board) et ∙ ap (board_after b) ec in
-    let board : board_in t.hand (data_at text t.began) l' r' ≡ (turn b c).board =
-    ap (λ (h : List ℕ). board_in t.hand h l' r')
+    let board : board_in t.turn.hand (data_at text t.began) l' r' ≡ (turn b c).board =
+    ap (λ (h : List ℕ). board_in t.turn.hand h l' r')
     (ap (data_at text) e.1
-    ∙ held_there t.answer text (own_of call (data_at text own)) held begins s.began hb refl)
+    ∙ held_there t.turn.answer text (own_of call (data_at text own)) held begins s.began hb refl)
     ∙ after in
     let kept : out' ≡ lent call l r out = ap (λ (x : Made). x.out) et in
     λ i. nexts (answer i ∷ []) (stands place 0 (board i)) (kept i)

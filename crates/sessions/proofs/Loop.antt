@@ -1,7 +1,6 @@
 -- A loop over the next calls of a script, on copies of two pages.
 -- In order: copies of pages; each turn leads to where the script ends; each turn leaves less.
 -- Assumes nothing.
-use Rattle.std.specs.Prelude.{Some}
 use Prim.Native.Nat.{ℕ, zero, suc, ◌+◌, ◌-◌, ◌*◌, ◌<◌, ◌≤◌, min}
 use mathlib.Core.Path.{◌≡◌, refl, sym, ap, subst, ◌∙◌}
 use mathlib.Core.Bool.{Bool, true, false, cond, not, ◌||◌}

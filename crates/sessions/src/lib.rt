@@ -18,7 +18,7 @@ ghost use Rattle.sessions.specs.Sessions.{
 };
 
 use boards::Answer;
-use turns::{Job, Next};
+use turns::{Job, Next, Turned};
 use walks::Walk;
 
 // The walk in hand, where the line is that began it, where the next line is, and how many steps of the
@@ -65,6 +65,8 @@ impl Session {
 // ---- one call
 // Makes a call, which has one answer, with this output; the line after it is at `after`. What the engine
 // counts as made is made.
+// Each parameter is what `MadeOne` speaks of; both pages lent for writing go side by side, as
+// `pages::Pair` says.
 fn make_one(
     text: &[u8],
     job: Job,
@@ -85,11 +87,19 @@ fn make_one(
         out.new }
 {
     let len = out.len();
-    let turn = turns::make(text, job, session.hand, session.began, left, right, out);
+    let Turned { turn, began } = turns::make(
+        text,
+        job,
+        session.hand,
+        session.began,
+        left,
+        right,
+        out,
+    );
     Answered {
         session: Session {
             hand: turn.hand,
-            began: turn.began,
+            began,
             at: after,
             left: 0,
         },

@@ -7,7 +7,7 @@ ghost use Rattle.std.specs.Prelude.{◌≤◌};
 
 use arguments::{Argument, Name, Word};
 use loads::{Origin, Source};
-use pages::{ImageOffset, PageOffset, Side};
+use pages::{ImageOffset, PageOffset, Pair, Side};
 use plans::{ImageCell, Spot};
 use prints::{Output, VERSION};
 use std::fmt;
@@ -139,23 +139,18 @@ impl fmt::Display for Alike {
 #[derive(Clone, Copy)]
 struct Dump<'a> {
     source: Source,
-    left: &'a [u8],
-    right: &'a [u8],
+    pair: Pair<'a>,
     save: Walk,
 }
 
-fn line_of(left: &[u8], right: &[u8]) -> u8 {
-    table::status_of(left, right).state.line()
+fn line_of(pair: Pair<'_>) -> u8 {
+    table::status_of(pair).state.line()
 }
 
 impl Dump<'_> {
-    fn page(&self, side: Side) -> &[u8] {
-        side.pick(self.left, self.right)
-    }
-
     // Which page is live, if one is.
     fn live(&self) -> Option<Side> {
-        table::status_of(self.left, self.right).live
+        table::status_of(self.pair).live
     }
 
     // Whether the pages may be one.
@@ -166,17 +161,21 @@ impl Dump<'_> {
             Source::Parts(parts) if parts.left_at.abs_diff(parts.right_at) < parts.length => {
                 Some(Alike::SharedBytes)
             }
-            _ if self.left == self.right && !flash::erased(self.left) => Some(Alike::SameBytes),
+            _ if self.pair.left == self.pair.right && !flash::erased(self.pair.left) => {
+                Some(Alike::SameBytes)
+            }
             _ => None,
         }
     }
 
     // The line of the pages the other way round, where they have one that way only.
     fn swapped_line(&self) -> Option<u8> {
-        match (
-            line_of(self.left, self.right),
-            line_of(self.right, self.left),
-        ) {
+        let Pair { left, right } = self.pair;
+        let swapped = Pair {
+            left: right,
+            right: left,
+        };
+        match (line_of(self.pair), line_of(swapped)) {
             (0, line) if line != 0 => Some(line),
             _ => None,
         }
@@ -202,19 +201,19 @@ impl fmt::Display for ManagementWord {
 impl Dump<'_> {
     // Prints where the pages come from, and their words.
     fn print_words(&self, out: &mut Output) -> fmt::Result {
-        let size = image_of(self.left).len();
+        let size = image_of(self.pair.left).len();
         writeln!(
             out,
             "{}\nP = {}: an image of {size} bytes from page offset 4 on, {} cells",
             self.source,
-            self.left.len(),
+            self.pair.left.len(),
             size / 2
         )?;
         writeln!(
             out,
             "LEFT  word {}\nRIGHT word {}",
-            ManagementWord(pages::word(self.left)),
-            ManagementWord(pages::word(self.right))
+            ManagementWord(pages::word(self.pair.left)),
+            ManagementWord(pages::word(self.pair.right))
         )
     }
 
@@ -227,7 +226,7 @@ impl Dump<'_> {
                 writeln!(
                     out,
                     "{side} is live\nthe other page, {other}, {}",
-                    Held::by(self.page(other))
+                    Held::by(self.pair.on(other))
                 )
             }
             None => writeln!(
@@ -282,6 +281,7 @@ impl Dump<'_> {
     fn print_steps(&self, out: &mut Output) -> fmt::Result {
         let total = self.save.total();
         writeln!(out, "a save from here takes {total} steps:")?;
+        // A step is looked up by its place: no list of them stands in memory.
         for place in 0..total {
             self.print_step(out, place)?;
         }
@@ -290,7 +290,7 @@ impl Dump<'_> {
 
     fn print_image(&self, out: &mut Output, side: Side, note: &str) -> fmt::Result {
         let rows = Rows {
-            image: image_of(self.page(side)),
+            image: image_of(self.pair.on(side)),
             before: None,
         };
         write!(out, "the image of {side}{note}:\n{rows}")
@@ -308,6 +308,7 @@ impl Dump<'_> {
         }
     }
 
+    // No Display: a dump has two texts, this one and JSON.
     fn print(&self, out: &mut Output) -> fmt::Result {
         self.print_words(out)?;
         self.print_line(out)?;
@@ -398,7 +399,7 @@ impl fmt::Display for JsonPage<'_> {
 impl Dump<'_> {
     fn print_json_line(&self, out: &mut Output) -> fmt::Result {
         let live = self.live();
-        let held = live.map(|side| Held::by(self.page(side.other())).key());
+        let held = live.map(|side| Held::by(self.pair.on(side.other())).key());
         write!(
             out,
             "\"line\": {}, \"live\": {}, \"other\": {}, \"steps\": {}, \"deciding\": {}",
@@ -421,14 +422,12 @@ impl Dump<'_> {
     }
 
     fn print_json(&self, out: &mut Output) -> fmt::Result {
-        let left = JsonPage {
-            origin: self.source.left(),
-            page: self.left,
+        let page = |side: Side| JsonPage {
+            origin: self.source.origin(side),
+            page: self.pair.on(side),
         };
-        let right = JsonPage {
-            origin: self.source.right(),
-            page: self.right,
-        };
+        let left = page(Side::Left);
+        let right = page(Side::Right);
         write!(
             out,
             "{{\"ok\": true, \"version\": \"{VERSION}\", \"page\": {}, \"left\": {left}, \"right\": {right}, ",
@@ -499,27 +498,16 @@ fn show(out: &mut Output, form: Form) -> Result<(), Error> {
     let source = source_of(rt, form)?;
     let mut left = loads::page_buffer();
     let mut right = loads::page_buffer();
-    let (left, right) = source.load(rt, &mut left, &mut right)?;
-    if let Ok(save) = Walk::save(left, right, image_start(), b"") {
-        let _ = form.print(
-            out,
-            Dump {
-                source,
-                left,
-                right,
-                save,
-            },
-        );
+    let pair = source.load(rt, &mut left, &mut right)?;
+    if let Ok(save) = Walk::save(pair, image_start(), b"") {
+        let _ = form.print(out, Dump { source, pair, save });
     }
     Ok(())
 }
 
 // Shows the pages, or prints why it doesn't.
 fn run_form(out: &mut Output, form: Form) -> fmt::Result {
-    match show(out, form) {
-        Ok(()) => Ok(()),
-        Err(error) => form.print_error(out, error),
-    }
+    show(out, form).or_else(|error| form.print_error(out, error))
 }
 
 fn help(out: &mut Output) -> fmt::Result {

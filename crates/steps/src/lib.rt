@@ -35,11 +35,10 @@ fn program_cell(page: &mut [u8], at: ImageOffset, value: u16) -> Result<(), Step
         (record { number = number_in result; bytes = page.new })
         (imaged page.old at value) }
 {
-    let start = pages::MANAGEMENT_SIZE as usize;
-    if page.len() < start {
-        return Err(StepError::Unfit);
-    }
-    program_image(&mut page[start..], at, value)
+    let (_, image) = page
+        .split_at_mut_checked(pages::MANAGEMENT_SIZE as usize)
+        .ok_or(StepError::Unfit)?;
+    program_image(image, at, value)
 }
 
 fn program_mark(page: &mut [u8], at: PageOffset, value: u16) -> Result<(), StepError>
@@ -52,6 +51,7 @@ fn program_mark(page: &mut [u8], at: PageOffset, value: u16) -> Result<(), StepE
 
 // Programs an image cell of the page of a side: the step that a save makes most, apart from the others.
 // Both arms stand, here and in `make`: of two pages lent for writing `Side::pick` can't hand on one.
+// Both pages lent for writing go side by side, as `pages::Pair` says.
 pub fn make_image(
     side: Side,
     at: ImageOffset,

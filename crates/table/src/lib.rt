@@ -5,7 +5,7 @@
 ghost use Rattle.std.specs.Prelude.{◌≡◌, Some};
 ghost use Rattle.pages.specs.Pages.{table, look, status_of, standing};
 
-use pages::{Side, State, Status};
+use pages::{Pair, Side, State, Status};
 
 // A state with the side that is live.
 fn live_at(state: State, side: Side) -> Status
@@ -40,9 +40,12 @@ fn look_up(left: u32, right: u32) -> Status
     }
 }
 
-// The state of two pages, and which of them is live.
-pub fn status_of(left: &[u8], right: &[u8]) -> Status
-    ensures { standing result ≡ standing (status_of left.now right.now) }
+// The state of two pages, and which of them is live. Called, it would store its answer byte by byte, and
+// the caller would know nothing of it: put where it is called, what depends on the line is decided at once.
+#[inline]
+pub fn status_of(pair: Pair<'_>) -> Status
+    ensures { standing result
+        ≡ standing (status_of pair.entry.left.now pair.entry.right.now) }
 {
-    look_up(pages::word(left), pages::word(right))
+    look_up(pages::word(pair.left), pages::word(pair.right))
 }

@@ -173,13 +173,6 @@ return_is s line r (Some x) el er h =
     ap (λ (x : Bor (List ℕ)). x.now) er ∙ h.1
     ∙ sym (ap (λ (t : Bool). cond t (take (length s - 1) s) s) (last_return s true h.0))
 
-pub no_line : (text : List ℕ) (place : ℕ) → length text ≤ place → [] ≡ line_at text place
-unfolding line_at before_first without_comment without_return used
-no_line text place h =
-    sym
-    (ap (λ (t : List ℕ). on_from (ending true) (trimmed (without_comment (up_to (is 10) t))))
-    (drop_all place text h))
-
 pub line_is : (text words : List ℕ) (place end start : ℕ) → end ≡ before_first (is 10) (drop place text)
     → words ≡ trimmed (without_comment (take end (drop place text))) → start ≡ before_first (ending true) words
     → take (length words - start) (drop start words) ≡ line_at text place
@@ -228,13 +221,6 @@ word_on rest w size counter number h e k =
     ∙ sym (ap (λ (n : ℕ). word_at n rest) left)
     ∙ k
 
-pub word_end : (rest w : List ℕ) (end counter number : ℕ) → number ≤ counter → end ≡ before_first (ending false) rest
-    → word_at (number - counter) rest ≡ w → take end rest ≡ w
-unfolding word_at
-word_end rest w end counter number h e k =
-    let None : number - counter ≡ 0 = omega arith in
-    ap (λ (n : ℕ). take n rest) e ∙ sym (ap (λ (n : ℕ). word_at n rest) None) ∙ k
-
 -- two words are the same
 same_self : (a : List ℕ) → same a a ≡ true
 unfolding same
@@ -251,14 +237,3 @@ same_true (x ∷ xs) (y ∷ ys) h = go (eqb x y) refl h (same_true xs ys)
     go : (t : Bool) → eqb x y ≡ t → (t && same xs ys) ≡ true → (same xs ys ≡ true → xs ≡ ys) → x ∷ xs ≡ y ∷ ys
     go true e k f = (λ i. eqb-true x y e i ∷ f k i)
     go false e k f = let z : ◌≡◌ {A = ℕ} 0 1 = cc in absurd (omega arith)
-
-pub same_is : (a b : List ℕ) (r t : Bool) → (r ≡ true → a ≡ b) × (a ≡ b → r ≡ true) → r ≡ t → same a b ≡ t
-same_is a b r true h e = ap (same a) (sym (h.0 e)) ∙ same_self a
-same_is a b r false h e = go (same a b) refl
-  where
-    go : (u : Bool) → same a b ≡ u → u ≡ false
-    go true k =
-        let w : r ≡ true = h.1 (same_true a b k) in
-        let z : ◌≡◌ {A = ℕ} 0 1 = cc in
-        absurd (omega arith)
-    go false k = refl

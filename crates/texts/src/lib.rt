@@ -61,10 +61,13 @@ fn word_size(line: &[u8]) -> usize
 }
 
 // A line up to its last byte that is no blank and no tab.
+#[tactic(auto, using(crate::proofs::Laws::trimmed_blank, crate::proofs::Laws::trimmed_word))]
 fn trimmed(line: &[u8]) -> &[u8]
     ensures { result.now ≡ trimmed line.now }
 {
     let mut kept = line;
+    // The pattern takes off the last byte, with no place that is counted. No `trim_ascii_end`, which takes
+    // off other bytes too.
     while let [front @ .., last] = kept
         && is_blank(*last)
     {
@@ -84,6 +87,7 @@ fn without_comment(line: &[u8]) -> &[u8]
 }
 
 // The line that begins at a place, from its first word to its last.
+#[tactic(auto, using(crate::proofs::Laws::found_or, crate::proofs::Laws::line_is))]
 pub fn line_at(text: &[u8], from: usize) -> &[u8]
     ensures { result.now ≡ line_at text.now from }
 {
@@ -95,6 +99,7 @@ pub fn line_at(text: &[u8], from: usize) -> &[u8]
 
 // Where the line after the one that begins at a place begins, within the text: less of it is left
 // from there on than from that place on, or nothing.
+#[tactic(auto, using(crate::proofs::Laws::next_last, crate::proofs::Laws::next_more))]
 pub fn next_line(text: &[u8], from: usize) -> usize
     ensures value { result ≡ next_line text.now from }
     ensures upper_bound { (result ≤ length text.now)
@@ -109,6 +114,7 @@ pub fn next_line(text: &[u8], from: usize) -> usize
 
 // ---- words
 // How long the first word of a line is with the blanks after it.
+#[tactic(auto, using(crate::proofs::Laws::stride_is))]
 fn stride(line: &[u8]) -> usize
     ensures value { result ≡ stride_of line.now }
     ensures upper_bound { result ≤ length line.now }
@@ -118,10 +124,12 @@ fn stride(line: &[u8]) -> usize
 }
 
 // The word of a number, of a line that begins with its first.
+#[tactic(auto, using(crate::proofs::Laws::word_on), unfolding(crate::specs::Texts::word_at))]
 pub fn word(line: &[u8], number: usize) -> &[u8]
     ensures { result.now ≡ word_at number line.now }
 {
     let mut rest = line;
+    // So many words are passed: nothing but their number is counted.
     for _ in 0..number {
         rest = &rest[stride(rest)..];
     }

@@ -6,8 +6,8 @@ use Rattle.std.specs.Prelude.{ℕ, zero, suc, ◌-◌, ◌%◌, cond, List, ◌+
 use Rattle.boards.specs.declared.Call.{Call}
 use Rattle.boards.specs.declared.Call as L
 use Rattle.boards.specs.declared.Answer.{Answer}
-use Rattle.boards.specs.declared.Answer as A
 use Rattle.boards.specs.declared.Turn.{Turn}
+use Rattle.boards.specs.Boards.{kept_after}
 use Rattle.texts.specs.Texts.{line_at, next_line, word_at}
 use Rattle.digits.specs.Digits.{bytes_of, Decoded}
 use Rattle.asks.specs.Asks as T
@@ -41,17 +41,11 @@ zeros = replicate 4096 0
 -- ---- a call made
 -- the engine's turn in it
 abbrev pub turn_of : Turned → Turn
-turn_of x = record { hand = x.hand; made = x.made; answer = x.answer }
+turn_of x = x.turn
 
 -- where the line is that began the walk in hand
 abbrev pub began_after : Answer → ℕ → ℕ → ℕ
-began_after A.TheVariants.Nothing own began = began
-began_after A.TheVariants.Begun own began = own
-began_after A.TheVariants.Made own began = began
-began_after A.TheVariants.Ended own began = began
-began_after (A.TheVariants.Number n) own began = began
-began_after (A.TheVariants.Part o n) own began = began
-began_after (A.TheVariants.Output n) own began = began
+began_after a own began = kept_after a own began
 
 -- ---- the call that a line stands for
 -- what is done for a line at a place of a text with this end: steps that are left, or a call, of

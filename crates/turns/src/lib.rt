@@ -20,17 +20,14 @@ ghost use Rattle.turns.specs.Turns.{
   plan_of,
 };
 
-use boards::{Answer, Call};
+use boards::{Call, Turn};
 use walks::Walk;
 
-// The walk in hand after a call, where the line is that began it, how many steps were made, and the
-// answer, as the engine has them.
+// What the engine gives for a call, and where the line is that began the walk then in hand.
 #[derive(Clone, Copy)]
 pub struct Turned {
-    pub hand: Option<Walk>,
+    pub turn: Turn,
     pub began: usize,
-    pub made: u32,
-    pub answer: Answer,
 }
 
 // A call that is made: where its data is, where the line is that begins its walk, and how many bytes it
@@ -58,6 +55,7 @@ pub struct Plan {
 }
 
 // A buffer that holds 00.
+#[tactic(auto, using(crate::proofs::Laws::blank_is))]
 pub fn blank() -> [u8; 4096]
     ensures { result ≡ zeros }
 {
@@ -91,18 +89,10 @@ pub fn load(text: &[u8], place: usize, into: &mut [u8]) -> usize
     }
 }
 
-// Where the line is that began the walk in hand, after an answer.
-fn began_after(answer: Answer, begins: usize, began: usize) -> usize
-    ensures { result ≡ began_after answer begins began }
-{
-    match answer {
-        Answer::Begun => begins,
-        _ => began,
-    }
-}
-
 // Makes a call with the data of the line at its place, on a board whose walk in hand was begun with that
 // of the line at another. A walk that it begins is begun by the line at `begins`.
+// Each parameter is what the engine's `make` has, or a place of the text for it; both pages lent for
+// writing go side by side, as `pages::Pair` says.
 pub fn make(
     text: &[u8],
     job: Job,
@@ -123,7 +113,7 @@ pub fn make(
         (board_in hand (data_at text.now began) left.old right.old)
         (data_at text.now job.place)
         out.old))
-        × (result.began ≡ began_after result.answer job.begins began) }
+        × (result.began ≡ began_after result.turn.answer job.begins began) }
 {
     let mut held = blank();
     let mut data = blank();
@@ -138,12 +128,8 @@ pub fn make(
         right,
         out,
     );
-    Turned {
-        hand: turn.hand,
-        began: began_after(turn.answer, job.begins, began),
-        made: turn.made,
-        answer: turn.answer,
-    }
+    let began = turn.answer.kept(job.begins, began);
+    Turned { turn, began }
 }
 
 // What is done for a line at a place of a text with this end, by what it asks for, where the output has
@@ -198,6 +184,7 @@ fn line_next(
 
 // What is done next where so many steps of a line are left, the walk in hand was begun by another, and
 // the next line is at a place: a step, or what that line asks for.
+#[tactic(auto, using(crate::proofs::Laws::line_planned, crate::proofs::Laws::step_planned))]
 pub fn plan_next(text: &[u8], at: usize, began: usize, left: u32, room: usize) -> Plan
     ensures { result ≡ plan_of text.now at began left room }
 {

@@ -19,7 +19,7 @@ ghost use Rattle.verdicts.specs.Verdicts.{
   counted,
 };
 
-use pages::{ImageOffset, MAX_PAGE, PageOffset};
+use pages::{ImageOffset, MAX_PAGE, PageOffset, Pair};
 use plans::Request;
 
 // What a read shows after a cut: no image, as before; the image before, which may be the new one too;
@@ -45,15 +45,15 @@ pub struct Tally {
 // ---- what a read shows
 // What a read of the whole image gives: nothing where no page is live.
 #[tactic(auto, using(crate::proofs::Laws::too_long))]
-pub fn image<'a>(left: &'a [u8], right: &'a [u8]) -> &'a [u8]
-    ensures { result.now ≡ shown left.now right.now }
+pub fn image(pair: Pair<'_>) -> &[u8]
+    ensures { result.now ≡ shown pair.entry.left.now pair.entry.right.now }
 {
-    let size = left.len();
+    let size = pair.left.len();
     if MAX_PAGE < size {
         return &[];
     }
     let start = ImageOffset(0).to_page();
-    reads::read(left, right, start, plans::cell_count(size as u32) * 2)
+    reads::read(pair, start, plans::cell_count(size as u32) * 2)
 }
 
 // A byte of an image, FF where there is none.
@@ -92,6 +92,8 @@ fn is_saved(image: &[u8], old: &[u8], offset: PageOffset, data: &[u8]) -> bool
     image.len() <= MAX_PAGE && is_new(image, old, offset, data)
 }
 
+// The verdict by two tests: whether the image is the old one, and whether it is the new one. Each is a plain
+// yes or no.
 #[tactic(auto, using(crate::proofs::Laws::same_pointwise))]
 fn judge_image(image: &[u8], old: &[u8], new: bool) -> Verdict
     ensures { verdict_in result ≡ image_verdict (same image.now old.now) new }
@@ -150,6 +152,13 @@ impl Tally {
         }
     }
 
+    // Whether a read showed another image.
+    pub fn has_another(self) -> bool
+        ensures { result ≡ nat_lt 0 self.another }
+    {
+        0 < self.another
+    }
+
     // With one verdict more. No save has so many steps that a count wraps.
     pub fn with(self, verdict: Verdict) -> Tally
         ensures { result ≡ counted self (verdict_in verdict) }
@@ -169,11 +178,4 @@ impl Tally {
             },
         }
     }
-}
-
-// Whether a read showed another image. The pages name this function, so it is no method.
-pub fn has_another(tally: Tally) -> bool
-    ensures { result ≡ nat_lt 0 tally.another }
-{
-    0 < tally.another
 }

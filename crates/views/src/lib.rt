@@ -8,7 +8,7 @@
 ghost use Rattle.std.specs.Prelude.{◌≡◌, Some};
 ghost use Rattle.views.specs.Views.{event_of, event_name, shown_text, tally_text, cut_tally_text};
 
-use pages::{ImageOffset, Status};
+use pages::{ImageOffset, Pair, Status};
 use plans::{Entry, Request, Spot};
 use prints::Printable;
 use std::fmt;
@@ -19,14 +19,11 @@ use walks::Walk;
 // ---- the pages
 // The line of two pages, and which of them is live.
 #[derive(Clone, Copy)]
-pub struct Line<'a> {
-    pub left: &'a [u8],
-    pub right: &'a [u8],
-}
+pub struct Line<'a>(pub Pair<'a>);
 
 impl fmt::Display for Line<'_> {
     fn fmt<W: fmt::Write>(&self, f: &mut fmt::Formatter<W>) -> fmt::Result {
-        let Status { state, live } = table::status_of(self.left, self.right);
+        let Status { state, live } = table::status_of(self.0);
         let line = state.line();
         match live {
             None => write!(f, "line {line}, no page is live"),
@@ -37,20 +34,17 @@ impl fmt::Display for Line<'_> {
 
 // The words of two pages, and their line.
 #[derive(Clone, Copy)]
-pub struct Words<'a> {
-    pub left: &'a [u8],
-    pub right: &'a [u8],
-}
+pub struct Words<'a>(pub Pair<'a>);
 
 impl fmt::Display for Words<'_> {
     fn fmt<W: fmt::Write>(&self, f: &mut fmt::Formatter<W>) -> fmt::Result {
-        let Words { left, right } = *self;
+        let Words(pair) = *self;
         write!(
             f,
             "LEFT {:08X}, RIGHT {:08X}: {}",
-            pages::word(left),
-            pages::word(right),
-            Line { left, right }
+            pages::word(pair.left),
+            pages::word(pair.right),
+            Line(pair)
         )
     }
 }
@@ -196,11 +190,7 @@ impl fmt::Display for CutTally {
 
     fn fmt<W: fmt::Write>(&self, f: &mut fmt::Formatter<W>) -> fmt::Result {
         let CutTally { cuts, tally } = *self;
-        let start = if verdicts::has_another(tally) {
-            "failed"
-        } else {
-            "ok"
-        };
+        let start = if tally.has_another() { "failed" } else { "ok" };
         let unit = if cuts == 1 { "cut" } else { "cuts" };
         write!(f, "{start}: {cuts} {unit}, {}", InWords(tally))
     }
@@ -293,6 +283,7 @@ impl fmt::Display for Row<'_> {
                 write!(f, "[{byte:02X}]")?;
             }
         }
+        // Four blanks for each byte that a short row lacks: nothing but their number is counted.
         for _ in self.bytes.len()..ROW {
             write!(f, "    ")?;
         }
@@ -302,8 +293,8 @@ impl fmt::Display for Row<'_> {
 
 impl fmt::Display for Rows<'_> {
     fn fmt<W: fmt::Write>(&self, f: &mut fmt::Formatter<W>) -> fmt::Result {
-        let image = self.image;
-        let (earlier, fold) = match self.before {
+        let Rows { image, before } = *self;
+        let (earlier, fold) = match before {
             Some(before) if before.len() == image.len() => (before, Fold::Unchanged),
             _ => (image, Fold::Erased),
         };

@@ -63,6 +63,9 @@ started request l r o n s told =
     }
 
 -- ---- a format's offset and length
+pub format_offset : (o : PageOffset) (n : ℕ) → (o.0 ≡ 4 → ⊥) → true ≡ wrong_format Format o n
+format_offset o n h = sym (simp (ne_eqb o.0 4 h))
+
 pub format_length : (o : PageOffset) (n : ℕ) → o.0 ≡ 4 → not (eqb n 0) ≡ wrong_format Format o n
 format_length o n h = sym (simp (eq-eqb o.0 4 h))
 

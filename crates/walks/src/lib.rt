@@ -35,7 +35,7 @@ ghost use Rattle.walks.specs.Walks.{
 };
 
 use flash::StepError;
-use pages::{PageOffset, State};
+use pages::{PageOffset, Pair, State};
 use plans::{Plan, Request, Spot};
 use requests::Refusal;
 
@@ -45,6 +45,7 @@ use requests::Refusal;
 pub struct Walk {
     pub request: Request,
     pub start: State,
+    // The paper's erased-or-not, with no value that goes with it.
     pub erased: bool,
     pub page: u32,
     pub offset: PageOffset,
@@ -78,16 +79,17 @@ pub struct Ran {
 
 // ---- beginning
 // The walk of a request that is legal.
-fn first_walk(request: Request, left: &[u8], right: &[u8], offset: PageOffset, len: u32) -> Walk
-    requires { length left.now ≤ 4096 }
-    ensures { result ≡ first_walk request left.now right.now offset len }
+fn first_walk(request: Request, pair: Pair<'_>, offset: PageOffset, len: u32) -> Walk
+    requires { length pair.left.now ≤ 4096 }
+    ensures { result
+        ≡ first_walk request pair.entry.left.now pair.entry.right.now offset len }
 {
-    let start = lines::start_of(request, left, right);
+    let start = lines::start_of(request, pair);
     Walk {
         request,
         start: start.state,
         erased: start.erased,
-        page: left.len() as u32,
+        page: pair.left.len() as u32,
         offset,
         len,
         place: 0,
@@ -104,6 +106,7 @@ fn check_numbers(left: usize, right: usize, offset: PageOffset, len: usize) -> R
 // ---- stepping
 // The entry at the walk's place, tried on the pages. Image cells are asked for first, so that they take
 // no turn through an entry; what else stands there is an entry, since the place lies in the list.
+// Both pages lent for writing go side by side, as `pages::Pair` says.
 fn try_step(walk: Walk, left: &mut [u8], right: &mut [u8], data: &[u8]) -> Result<(), StepError>
     requires { (wrong_numbers walk (length left.old) (length right.old) (length «data».now)
         ≡ false)
@@ -119,7 +122,7 @@ fn try_step(walk: Walk, left: &mut [u8], right: &mut [u8], data: &[u8]) -> Resul
     let plan = walk.plan();
     if let Some(cell) = entries::cell_at(plan, walk.place) {
         let live = walk.start.live();
-        return tries::try_cell(live, cell.side, cell.at, walk.offset, data, left, right);
+        return tries::try_cell(live, cell, walk.offset, data, left, right);
     }
     let Some(Spot::Fixed(entry)) = entries::spot_at(plan, walk.place) else {
         unreachable!()
@@ -188,22 +191,24 @@ impl Walk {
     // Begins a save of the data at a page offset: gives the walk at its first place, or says which
     // of 1 to 4 refuses it. No page byte is changed, and none is looked at before the numbers are
     // found right. Each page is looked through at most once, and only where erased-or-not counts.
-    pub fn save(left: &[u8], right: &[u8], offset: PageOffset, data: &[u8]) -> Result<Walk, Refusal>
+    pub fn save(pair: Pair<'_>, offset: PageOffset, data: &[u8]) -> Result<Walk, Refusal>
         ensures { beginning_in result
-            ≡ begin_save left.now right.now offset «data».now }
+            ≡ begin_save pair.entry.left.now pair.entry.right.now offset «data».now }
     {
         let size = data.len();
-        check_numbers(left.len(), right.len(), offset, size)?;
-        Ok(first_walk(Request::Save, left, right, offset, size as u32))
+        check_numbers(pair.left.len(), pair.right.len(), offset, size)?;
+        Ok(first_walk(Request::Save, pair, offset, size as u32))
     }
 
     // Begins a format, in the same way. Only the pages' lengths can refuse it.
-    pub fn format(left: &[u8], right: &[u8]) -> Result<Walk, Refusal>
-        ensures { beginning_in result ≡ begin_format left.now right.now }
+    pub fn format(pair: Pair<'_>) -> Result<Walk, Refusal>
+        ensures { beginning_in result
+            ≡ begin_format pair.entry.left.now pair.entry.right.now }
     {
-        requests::check_lengths(left.len(), right.len(), Walk::MIN_PAGE, Walk::MAX_PAGE)?;
+        let (left, right) = (pair.left.len(), pair.right.len());
+        requests::check_lengths(left, right, Walk::MIN_PAGE, Walk::MAX_PAGE)?;
         let offset = PageOffset(Walk::MANAGEMENT_SIZE);
-        Ok(first_walk(Request::Format, left, right, offset, 0))
+        Ok(first_walk(Request::Format, pair, offset, 0))
     }
 
     // Makes the one flash step at the walk's place and hands the walk back at the next place. At
@@ -255,6 +260,7 @@ impl Walk {
             «data».now) }
     {
         let mut place = self.place;
+        // The number of steps is what is counted, and handed back.
         for steps in 0..most {
             let Stepped { walk, progress } = self.at(place).step(left, right, data);
             if progress != Progress::Made {

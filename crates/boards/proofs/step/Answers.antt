@@ -1,5 +1,4 @@
 -- `boards::step` meets its contract. Assumes nothing.
-use Rattle.std.specs.Prelude.{Some, None}
 use Rattle.boards.proofs.Laws.{steps_made, no_walk}
 use Rattle.boards.proofs.step.Goals as goal
 
@@ -12,8 +11,8 @@ pub returns-in-Some : goal.returns-in-Some
 returns-in-Some c =
     steps_made c.args.times c.args.hand _ c.run-ran.result c.args.held.now
     c.args.«data».now c.handed.result.now c.args.left.now
-    c.args.right.now _ _ c.progress_answer.result
+    c.args.right.now _ _ c.from.result
     c.in-Some.is
     c.handed.ensures
     c.run-ran.ensures
-    c.progress_answer.ensures
+    c.from.ensures

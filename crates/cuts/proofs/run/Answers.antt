@@ -8,16 +8,16 @@ use Rattle.cuts.proofs.Laws.{no_walks, tally_one}
 use Rattle.cuts.proofs.run.Goals as goal
 
 pub returns-then-page-gt-MAX_PAGE-clause-tally : goal.returns-then-page-gt-MAX_PAGE-clause-tally
-returns-then-page-gt-MAX_PAGE-clause-tally c = sym (ap board_tally (no_walks c.args.text.now c.args.left.now c.args.right.now
-    (λ x. not_right c.args.left.now c.args.right.now c.then-page-gt-MAX_PAGE.either x.most x.same)))
+returns-then-page-gt-MAX_PAGE-clause-tally c = sym (ap board_tally (no_walks c.args.text.now c.args.pair.left.now c.args.pair.right.now
+    (λ x. not_right c.args.pair.left.now c.args.pair.right.now c.then-page-gt-MAX_PAGE.either x.most x.same)))
 
 pub returns-then-page-gt-MAX_PAGE-clause-found : goal.returns-then-page-gt-MAX_PAGE-clause-found
-returns-then-page-gt-MAX_PAGE-clause-found c = sym (ap is_some (no_walks c.args.text.now c.args.left.now c.args.right.now
-    (λ x. not_right c.args.left.now c.args.right.now c.then-page-gt-MAX_PAGE.either x.most x.same)))
+returns-then-page-gt-MAX_PAGE-clause-found c = sym (ap is_some (no_walks c.args.text.now c.args.pair.left.now c.args.pair.right.now
+    (λ x. not_right c.args.pair.left.now c.args.pair.right.now c.then-page-gt-MAX_PAGE.either x.most x.same)))
 
 pub returns-clause-tally : goal.returns-clause-tally
 returns-clause-tally c =
-    tally_one c.args.text.now c.args.left.now c.args.right.now
+    tally_one c.args.text.now c.args.pair.left.now c.args.pair.right.now
     c.find_last.new.kept_left c.find_last.new.kept_right _ c.find_last.result c.in_ok-last.last c.cut_each-tally.result
     c.in_ok-last.was
     c.find_last.ensures

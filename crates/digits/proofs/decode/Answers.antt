@@ -1,5 +1,4 @@
 -- `digits::decode` meets its contract. Assumes nothing.
-use Rattle.std.specs.Prelude.{Some, None}
 use Rattle.std.proofs.Common.{◌≡◌, ◌/◌, length, refl, arith, ◌∙◌}
 use Rattle.digits.proofs.Laws.{put_first, put_on, put_all, put_none}
 use Rattle.digits.proofs.decode.Goals as goal

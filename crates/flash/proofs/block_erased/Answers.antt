@@ -2,14 +2,10 @@
 use Prim.Native.Nat.{◌%◌}
 use mathlib.Core.Bool.{◌&&◌}
 use mathlib.Core.Path.{sym, ap, ◌∙◌}
-use native.Mathlib.Omega.{arith}
-use lib.Bits.{and_le_l}
-use lib.Dec.{eqb}
-use lib.ListN.{drop_of_length-le}
 use borrow.Author.Rules.{rules}
 use Rattle.std.specs.List.{list_all}
 use Rattle.flash.specs.Flash.{is_erased}
-use Rattle.flash.proofs.Laws.{and_true, chunks_erased, eight_joined, none_erased}
+use Rattle.flash.proofs.Laws.{and_true, chunks_erased, none_erased}
 use Rattle.flash.proofs.block_erased.Goals as goal
 
 pub loop-eight-init : goal.loop-eight-init
@@ -20,18 +16,3 @@ loop-eight-init c =
           ∙ and_true (list_all is_erased eights),
       search rules,
     )
-
-pub loop-eight-preserved : goal.loop-eight-preserved
-loop-eight-preserved c = (
-  eight_joined _ 18446744073709551615 c.loop-eight.all c.number-all.result c.loop-eight.eight-index
-      c.as_chunks.result.0.now c.loop-eight.invariant.1 (search rules) (search rules) c.number-all.ensures c.loop-eight.invariant.0,
-  omega (arith, and_le_l c.loop-eight.all c.number-all.result),
-)
-
-pub returns : goal.returns
-unfolding is_erased
-returns c =
-    let eights = c.as_chunks.result.0.now in
-    sym (c.loop-eight.invariant.0
-    ∙ ap (λ rest. eqb c.loop-eight.all 18446744073709551615 && list_all is_erased rest) (drop_of_length-le eights {i = c.loop-eight.eight-index} c.loop-eight-test.false)
-    ∙ and_true (eqb c.loop-eight.all 18446744073709551615))

@@ -7,7 +7,7 @@ use Rattle.lines.proofs.is_clean.Goals as goal
 
 pub returns-in-Some : goal.returns-in-Some
 returns-in-Some c =
-    clean_side _ c.in-Some.side c.args.left.now c.args.right.now _ c.in-Some.is
+    clean_side _ c.in-Some.side c.args.pair.left.now c.args.pair.right.now _ c.in-Some.is
     (c.has_words.ensures
-    ∙ ap (λ (s : State). eqb (word_of c.args.left.now) (row_of s).0 && eqb (word_of c.args.right.now) (row_of s).1)
+    ∙ ap (λ (s : State). eqb (word_of c.args.pair.left.now) (row_of s).left && eqb (word_of c.args.pair.right.now) (row_of s).right)
     c.pick.ensures)

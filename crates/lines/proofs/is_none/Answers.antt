@@ -1,14 +1,12 @@
--- `lines::is_none` meets its contract: a RIGHT without Spare FF has no row. Assumes nothing.
-use native.Mathlib.Omega.{arith}
-use Rattle.lines.proofs.Words.{spare_meets, no_spare}
+-- `lines::is_none` meets its contract: no row has a RIGHT with another Spare than FF. Assumes nothing.
+use borrow.Author.Tests.{ltb-true}
+use mathlib.Core.Path.{sym, ◌∙◌}
+use Rattle.pages.specs.Pages.{word_of}
+use Rattle.lines.proofs.Words.{word_meets}
 use Rattle.lines.proofs.is_none.Goals as goal
-use Rattle.lines.proofs.is_none.Goals.{then-right-lt4-via-then-right-lt4, then-right-lt4-via-else-right-lt4+then-right}
 
-pub returns-then-right-lt4 : goal.returns-then-right-lt4
-returns-then-right-lt4 c =
-    spare_meets c.args.left.now c.args.right.now (omega (arith, c.type_inv.right 0)) (omega (arith, c.type_inv.right 1))
-    (omega (arith, c.type_inv.right 2))
-    (elim c.then-right-lt4.branch [
-      | then-right-lt4-via-then-right-lt4 w ↦ no_spare c.args.right.now w.if-right-lt4.true
-      | then-right-lt4-via-else-right-lt4+then-right w ↦ omega (arith, c.type_inv.right 3, w.if-right.true)
-    ])
+pub returns-then-lacks_spare : goal.returns-then-lacks_spare
+returns-then-lacks_spare c =
+    c.if-lacks_spare.true
+    ∙ word_meets c.args.pair.left.now c.args.pair.right.now
+    (ltb-true (word_of c.args.pair.right.now) 4278190080 (sym c.lacks_spare.ensures ∙ c.if-lacks_spare.true))

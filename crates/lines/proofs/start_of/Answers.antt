@@ -7,5 +7,5 @@ use Rattle.lines.proofs.start_of.Goals as goal
 pub returns : goal.returns
 returns c =
     ap begins_in
-    (looked c.args.request c.args.left.now c.args.right.now c.status_of-state.result c.find_erased.result
+    (looked c.args.request c.args.pair.left.now c.args.pair.right.now c.status_of-state.result c.find_erased.result
     c.status_of-state.ensures c.find_erased.ensures)

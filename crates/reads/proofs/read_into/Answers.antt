@@ -1,11 +1,10 @@
 -- `reads::read_into` meets its contract: a refusal keeps the output, number 5 fills it with FF, and a found page is
 -- copied from.
 -- Assumes nothing.
-use Rattle.std.proofs.Common.{rules}
 use native.Mathlib.Omega.{arith}
 use Rattle.flash.proofs.Laws.{told}
 use Rattle.reads.specs.Reads.{found_in}
-use Rattle.reads.proofs.Laws.{on_legal, kept, blank, given}
+use Rattle.reads.proofs.Laws.{on_legal, kept_at, blank_at, given}
 use Rattle.reads.proofs.read_into.Goals as goal
 
 pub part-requires : goal.part-requires
@@ -23,7 +22,10 @@ returns-in-Ok c =
 
 pub returns-in-NoLive : goal.returns-in-NoLive
 returns-in-NoLive c =
-    blank c.args.left.now c.args.right.now c.args.offset c.args.out.now _ (search rules) c.erase.ensures
+    blank_at c.args.pair.left.now c.args.pair.right.now c.args.offset c.args.out.now _ c.in-Err.error c.in-NoLive.is
+    (told found_in c.in-Err.is c.locate.ensures) c.erase.ensures
 
-pub returns-in-Refused : goal.returns-in-Refused
-returns-in-Refused c = kept c.args.left.now c.args.right.now c.args.offset c.args.out.now c.in-Refused.why (search rules)
+pub returns-in_default : goal.returns-in_default
+returns-in_default c =
+    kept_at c.args.pair.left.now c.args.pair.right.now c.args.offset c.args.out.now c.in-Err.error c.in_default.not-NoLive
+    (told found_in c.in-Err.is c.locate.ensures)

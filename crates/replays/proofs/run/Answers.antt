@@ -1,6 +1,5 @@
 -- `replays::run` meets its contract. The loop's invariant: what lies ahead gives what the whole script gives.
 -- Assumes nothing.
-use Rattle.std.specs.Prelude.{Some}
 use Prim.Native.Nat.{ℕ, ◌+◌}
 use mathlib.Core.Path.{sym, ap, ◌∙◌}
 use native.Mathlib.Omega.{arith}

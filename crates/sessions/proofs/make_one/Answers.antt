@@ -7,26 +7,26 @@ pub returns-then-turn-eq0 : goal.returns-then-turn-eq0
 returns-then-turn-eq0 c = (
   refl,
   made_one c.args.text.now c.args.job.call c.args.job.place c.args.job.begins c.args.session c.args.after
-      c.make-turn.result _ c.args.left.now
+      c.make-began.result _ c.args.left.now
       c.args.right.now _ _ c.args.out.now _ _
       c.requires.0
       c.requires.1
-      c.make-turn.auto.out
-      c.make-turn.ensures
-      (none_made c.make-turn.result.made
-      c.make-turn.result.answer c.if-turn-eq0.true),
+      c.make-began.auto.out
+      c.make-began.ensures
+      (none_made c.make-began.result.turn.made
+      c.make-began.result.turn.answer c.if-turn-eq0.true),
 )
 
 pub returns-else-turn-eq0 : goal.returns-else-turn-eq0
 returns-else-turn-eq0 c = (
   refl,
   made_one c.args.text.now c.args.job.call c.args.job.place c.args.job.begins c.args.session c.args.after
-      c.make-turn.result _ c.args.left.now
+      c.make-began.result _ c.args.left.now
       c.args.right.now _ _ c.args.out.now _ _
       c.requires.0
       c.requires.1
-      c.make-turn.auto.out
-      c.make-turn.ensures
-      (some_made c.make-turn.result.made
-      c.make-turn.result.answer c.if-turn-eq0.false),
+      c.make-began.auto.out
+      c.make-began.ensures
+      (some_made c.make-began.result.turn.made
+      c.make-began.result.turn.answer c.if-turn-eq0.false),
 )

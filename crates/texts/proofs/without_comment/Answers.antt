@@ -1,5 +1,4 @@
 -- `texts::without_comment` meets its contract. Assumes nothing.
-use Rattle.std.specs.Prelude.{Some, None}
 use Rattle.std.proofs.Common.{refl, sym, ◌∙◌}
 use Rattle.texts.proofs.Laws.{comment_cut, no_comment, return_is}
 use Rattle.texts.proofs.without_comment.Goals as goal

@@ -2,8 +2,8 @@
 use Rattle.sessions.proofs.Loop.{Ends, leftover}
 use Rattle.timelines.proofs.run.Given as goal
 
-abbrev pub invariant-loop-now_left : goal.invariant-loop-now_left
-invariant-loop-now_left l = Ends l.text l.session l.now_left l.now_right l.left l.right
+abbrev pub invariant-loop-steps : goal.invariant-loop-steps
+invariant-loop-steps l = Ends l.text l.session l.now_left l.now_right l.pair.left.now l.pair.right.now
 
-abbrev pub decreases-loop-now_left : goal.decreases-loop-now_left
-decreases-loop-now_left l = leftover l.text l.session
+abbrev pub decreases-loop-steps : goal.decreases-loop-steps
+decreases-loop-steps l = leftover l.text l.session

@@ -10,5 +10,5 @@ returns c = (
       c.blank-data.ensures
       c.load-data_size.ensures.fact)
       c.make-turn.ensures,
-  c.began_after.ensures,
+  c.kept-began.ensures,
 )

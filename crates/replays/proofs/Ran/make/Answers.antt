@@ -1,5 +1,9 @@
 -- `replays::Ran::make` meets its contract: one call of the engine, by the laws of Made.antt. Assumes nothing.
 use mathlib.Core.Path.{ap, ◌∙◌}
+use Prim.Native.Nat.{ℕ}
+use mathlib.Core.List.{List}
+use denote.Ref.{Bor}
+use Rattle.boards.proofs.Laws.{kept_now}
 use native.Mathlib.Omega.{arith}
 use Rattle.replays.specs.Runs.{making, making_of}
 use Rattle.replays.proofs.Made.{left_by, left_room, left_end, left_run}
@@ -31,5 +35,6 @@ returns c =
     c.args.self.now.held.now c.args.item c.args.left.now c.args.right.now _ _ c.args.out.now _ _
     (c.of-job.ensures ∙ ap (making_of c.args.item) c.data_in_hand.ensures) c.requires c.put-end.ensures
     c.make-turn.auto.out c.make-turn.ensures in
-    left_run c.last_of-last.result c.held_after-self.result.now _ z c.last_of-last.ensures c.held_after-self.ensures
+    left_run c.last_of-last.result c.kept-self.result.now _ z c.last_of-last.ensures
+    (ap (λ (x : Bor (List ℕ)). x.now) c.kept-self.ensures ∙ kept_now c.last_of-last.result _ _)
     c.put_answers-after.ensures

@@ -8,7 +8,7 @@ use Rattle.walks.proofs.Walk.format.Goals as goal
 
 pub first_walk-requires : goal.first_walk-requires
 unfolding pages_number
-first_walk-requires c = (legal_pages (length c.args.left.now) (length c.args.right.now) (search rules)).most
+first_walk-requires c = (legal_pages (length c.args.pair.left.now) (length c.args.pair.right.now) (search rules)).most
 
 pub returns-in_err-check_lengths : goal.returns-in_err-check_lengths
 unfolding begin_format pages_number

@@ -10,7 +10,7 @@ use Rattle.walks.proofs.Walk.save.Goals as goal
 use Rattle.walks.proofs.Walk.save.Goals.{In_ok-check_numbers}
 
 legal_here : (c : In_ok-check_numbers)
-    → Legal (length c.args.left.now) (length c.args.right.now) c.args.offset (length c.args.«data».now)
+    → Legal (length c.args.pair.left.now) (length c.args.pair.right.now) c.args.offset (length c.args.«data».now)
 legal_here c = (legal _ _ _ _ 0 (search rules)).0
 
 pub overflow_cast-size : goal.overflow_cast-size

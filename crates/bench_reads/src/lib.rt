@@ -48,6 +48,7 @@ pub extern "C" fn bench_part<'a>(left: &'a [u8], right: &'a [u8], offset: u32, l
     }
 }
 
+// C hands over each page by itself.
 #[unsafe(no_mangle)]
 pub extern "C" fn bench_copy<'a>(
     left: &'a [u8],

@@ -144,8 +144,8 @@ fn handed<'a>(held: &'a [u8], given: &'a [u8]) -> &'a [u8]
 }
 
 // So many steps of the walk in hand.
-// Both pages lent for writing go side by side, as `pages::Pair` says. The others are
-// each by itself in the model's board and call.
+// The walk in hand and its data are one hand in the model; as one struct here both callers of `make` would take
+// it apart again. Both pages lent for writing go side by side, as `pages::Pair` says.
 fn step<'a>(
     hand: Option<Walk>,
     times: u32,
@@ -202,8 +202,7 @@ fn answered(hand: Option<Walk>, answer: Answer) -> Turn
 
 // Makes a call on the pages with this walk in hand, which was begun with the data held. The data is
 // that of a save or of the steps; the output is filled by a read into it, and kept by any other call.
-// Each parameter is by itself in the model's board and call; both pages lent for writing go side by side,
-// as `pages::Pair` says.
+// The parts of the hand go apart, as in `step`. Both pages lent for writing go side by side, as `pages::Pair` says.
 pub fn make<'a>(
     call: Call,
     hand: Option<Walk>,

@@ -64,6 +64,7 @@ fn begun(answered: Answered) -> Option<Last>
 }
 
 // Makes a script on copies of the pages, and keeps those on which its last walk is begun.
+// The pages that are kept are lent for writing, so they go side by side, as `pages::Pair` says.
 fn find_last(
     rt: HostRuntime,
     text: &[u8],

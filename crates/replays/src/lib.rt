@@ -244,6 +244,7 @@ impl<'a> Ran<'a> {
 }
 
 // Makes the calls of a script that was found whole.
+// Both pages lent for writing go side by side, as `pages::Pair` says.
 fn run<'a>(left: &mut [u8], right: &mut [u8], script: &'a [u8], out: &mut [u8]) -> Ran<'a>
     requires { (found (checked script.now (length out.old))).status ≡ 0 }
     ensures { run_in result left.new right.new out.new
@@ -270,6 +271,7 @@ fn run<'a>(left: &mut [u8], right: &mut [u8], script: &'a [u8], out: &mut [u8]) 
 // Checks a whole script and, where it is well formed and its answers have room, makes its calls on
 // the pages one after another, as a board would, and writes their answers to the output. Gives how
 // many bytes of the output they take.
+// Both pages lent for writing go side by side, as `pages::Pair` says.
 pub fn replay(
     left: &mut [u8],
     right: &mut [u8],

@@ -116,6 +116,7 @@ fn make_one(
 // ---- the next call
 // Makes the next call of a script, which may have any bytes, or passes a line that has none. A copy
 // reads into the first bytes of the output.
+// Both pages lent for writing go side by side, as `pages::Pair` says.
 #[tactic(auto, using(crate::proofs::Laws::passed))]
 pub fn next(
     text: &[u8],

@@ -72,6 +72,7 @@ fn digits_at(text: &[u8], place: usize) -> &[u8]
 // Decodes the data of the line at a place into a buffer, and tells how many bytes of it they are. Data
 // that is longer than the buffer isn't decoded: it stays as long as the buffer, a byte less where the
 // number of its bytes is odd.
+// A count and no part of the buffer: the promise says of the rest of it, too, what it holds.
 pub fn load(text: &[u8], place: usize, into: &mut [u8]) -> usize
     ensures fact { ◌≡◌ {A = Decoded}
         (record { count = result; buffer = into.new })

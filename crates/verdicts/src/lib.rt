@@ -44,6 +44,7 @@ pub struct Tally {
 
 // ---- what a read shows
 // What a read of the whole image gives: nothing where no page is live.
+// No Option: `shown` has no bytes where no page is live.
 #[tactic(auto, using(crate::proofs::Laws::too_long))]
 pub fn image(pair: Pair<'_>) -> &[u8]
     ensures { result.now ≡ shown pair.entry.left.now pair.entry.right.now }

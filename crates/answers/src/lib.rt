@@ -3,7 +3,6 @@
 // of walks. The lines are in docs/FORMATS.md. Nothing here is lent a page for writing.
 #![tactic(auto)]
 
-use arrayvec::ArrayVec;
 use asks::Call;
 use boards::Answer;
 use copies::first;
@@ -16,7 +15,7 @@ use std::fmt;
 use std::fmt::Write;
 use steps::Step;
 use verdicts::{Tally, Verdict};
-use views::{Counts, Event, InWords, Rows, Shown, Words};
+use views::{Counts, Event, Hex, InWords, Rows, Shown, Words};
 use walks::Walk;
 
 // Which lines the steps that program image cells have: a run of them has one, or each has its own.
@@ -33,8 +32,32 @@ pub struct Scene<'t, 'p> {
     pub pair: Pair<'p>,
 }
 
-// An image that a read showed; no bytes where the read was answered 5.
-type Image = ArrayVec<u8, { pages::MAX_PAGE }>;
+// An image that a read showed; no bytes where the read was answered 5. No ArrayVec, which is not Copy, as
+// `Report` is.
+#[derive(Clone, Copy)]
+struct Image {
+    bytes: [u8; pages::MAX_PAGE],
+    len: usize,
+}
+
+impl Image {
+    fn new() -> Image {
+        Image {
+            bytes: turns::blank(),
+            len: 0,
+        }
+    }
+
+    // Keeps an image in place of this one. None is longer than a page, so it fits.
+    fn keep(&mut self, image: &[u8]) {
+        copies::copy(image, &mut self.bytes);
+        self.len = image.len();
+    }
+
+    fn as_slice(&self) -> &[u8] {
+        first(&self.bytes, self.len)
+    }
+}
 
 // How often a read was judged, and what it showed.
 #[derive(Clone, Copy)]
@@ -46,7 +69,7 @@ struct Judged {
 // What a replay has printed so far: its lines; what a read showed before the call, and before the walk
 // in hand; whether the next step is one of a run that is printed as one line, and how many such steps
 // are made and not printed; and what a read showed after cuts and at the end of walks.
-#[derive(Drop)]
+#[derive(Clone, Copy)]
 pub struct Report {
     listing: Listing,
     shown: Image,
@@ -79,12 +102,6 @@ impl fmt::Display for Seen<'_> {
             write!(f, "; a read shows\n{}", Rows { image, before })
         }
     }
-}
-
-// Keeps an image in place of another. None is longer than a page, so it fits.
-fn keep(kept: &mut Image, image: &[u8]) {
-    kept.clear();
-    let _ = kept.try_extend_from_slice(image);
 }
 
 impl<'p> Scene<'_, 'p> {
@@ -230,14 +247,14 @@ struct Bytes<'a>(&'a [u8]);
 
 impl fmt::Display for Bytes<'_> {
     fn fmt<W: fmt::Write>(&self, f: &mut fmt::Formatter<W>) -> fmt::Result {
-        let Some((byte, rest)) = self.0.split_first() else {
+        let Some((first, rest)) = self.0.split_first() else {
             return write!(f, "no bytes");
         };
-        write!(f, "{byte:02X}")?;
-        for byte in rest {
-            write!(f, " {byte:02X}")?;
-        }
-        Ok(())
+        let rest = Hex {
+            bytes: rest,
+            parted: true,
+        };
+        write!(f, "{first:02X}{rest}")
     }
 }
 
@@ -342,7 +359,7 @@ impl Report {
             self.end_run(out, scene, session.hand)?;
         }
         if self.folded == 0 {
-            keep(&mut self.shown, scene.image());
+            self.shown.keep(scene.image());
         }
         if self.folds || session.left != 0 {
             return Ok(());
@@ -460,7 +477,7 @@ impl Report {
     ) -> fmt::Result {
         match answered.answer {
             Answer::Begun => {
-                keep(&mut self.old, scene.image());
+                self.old.keep(scene.image());
                 self.judge_end(out, scene, answered.session)
             }
             Answer::Made => self.judge_end(out, scene, answered.session),

@@ -99,7 +99,7 @@ times_length zero x = refl
 times_length (suc n) x = ap suc (times_length n x)
 
 -- what the calls made now begin, as the code tells it
-abbrev holds_in : Option Walk → Bool
+abbrev pub holds_in : Option Walk → Bool
 holds_in None = false
 holds_in (Some w) = true
 
@@ -107,10 +107,10 @@ holds_same : (hand : Option Walk) (held : List ℕ) → is_held (hand_in hand he
 holds_same None held = refl
 holds_same (Some w) held = refl
 
-abbrev begins_walk : Answered → Bool
+abbrev pub begins_walk : Answered → Bool
 begins_walk x = eqb x.times 1 && (begun_in x.answer && holds_in x.session.hand)
 
-not_once : (x : Answered) → (x.times ≡ 1 → ⊥) → begins_walk x ≡ false
+pub not_once : (x : Answered) → (x.times ≡ 1 → ⊥) → begins_walk x ≡ false
 not_once x h = ap (λ (t : Bool). t && (begun_in x.answer && holds_in x.session.hand)) (ne_eqb x.times 1 h)
 
 once : (x : Answered) → x.times ≡ 1 → begins_walk x ≡ (begun_in x.answer && holds_in x.session.hand)

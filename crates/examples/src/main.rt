@@ -227,30 +227,37 @@ impl fmt::Display for Answer {
     }
 }
 
+// What the library answers to each question about a vector.
+fn answers(vector: Vector) -> [Answer; 4] {
+    QUESTIONS.map(|question| question.answer(vector))
+}
+
 // Prints a vector's line.
-fn print_line(out: &mut Output, vector: Vector) -> fmt::Result {
+fn print_line(out: &mut Output, vector: Vector, answers: &[Answer; 4]) -> fmt::Result {
     write!(out, "{vector}")?;
-    let mut before = ": ";
-    for question in QUESTIONS {
-        write!(out, "{before}{question} {}", question.answer(vector))?;
-        before = "; ";
+    for (i, (question, answer)) in QUESTIONS.iter().zip(answers).enumerate() {
+        let before = if i == 0 { ": " } else { "; " };
+        write!(out, "{before}{question} {answer}")?;
     }
     writeln!(out)
 }
 
-// How many vectors get a wrong answer to a question. Each is asked anew, which changes no answer.
-fn count_wrong(question: Question) -> usize {
-    VECTORS
+// How many vectors get a wrong answer to a question, which is named by its place.
+fn count_wrong(asked: &[[Answer; 4]; 5], question: usize) -> usize {
+    asked
         .iter()
-        .filter(|vector| !question.answer(**vector).is_right())
+        .filter(|answers| answers
+            .get(question)
+            .is_some_and(|answer| !answer.is_right()))
         .count()
 }
 
 fn run(out: &mut Output) -> fmt::Result {
-    for vector in VECTORS {
-        print_line(out, vector)?;
+    let asked = VECTORS.map(answers);
+    for (vector, answers) in VECTORS.iter().zip(&asked) {
+        print_line(out, *vector, answers)?;
     }
-    match QUESTIONS.map(count_wrong) {
+    match [0, 1, 2, 3].map(|question| count_wrong(&asked, question)) {
         [0, 0, 0, 0] => writeln!(out, "all 5 examples are as document 01 gives them"),
         [read, copy, save, format] => writeln!(
             out,

@@ -125,7 +125,7 @@ pub step_unfit : (l : List ℕ) (i v old : ℕ) → cell_of l i ≡ Some old →
     → ◌≡◌ {A = Outcome} (record { number = 6; bytes = l }) (programmed l i v)
 step_unfit l i v old e h = sym (unfit l i v (fits_cell l i v old e ∙ ne_eqb (bit_and old v) v h))
 
-step_made : (l : List ℕ) (i v old : ℕ) → cell_of l i ≡ Some old → bit_and old v ≡ v
+pub step_made : (l : List ℕ) (i v old : ℕ) → cell_of l i ≡ Some old → bit_and old v ≡ v
     → ◌≡◌ {A = Outcome} (record { number = 0; bytes = stored l i (bit_and old v) }) (programmed l i v)
 step_made l i v old e h =
     sym (made l i v (fits_cell l i v old e ∙ eq-eqb (bit_and old v) v h)
@@ -243,7 +243,7 @@ full_digit b n full h = go (eqb b 255) (eqb n full) refl refl
     go false t p q = ne_eqb (b + n * 256) (255 + full * 256) (λ e. eqb-false b 255 p (omega arith))
 
 -- the bytes from a place on: the first of them, and the others
-byte_next : (l : List ℕ) (i : ℕ) → i < length l
+pub byte_next : (l : List ℕ) (i : ℕ) → i < length l
     → is_erased (drop i l) ≡ (eqb (get_or l i 0) 255 && is_erased (drop (i + 1) l))
 unfolding is_erased
 byte_next l i h = rw (drop-cons l i 0 h, add-one)
@@ -330,6 +330,16 @@ eight_joined t full all x i eights ha hx h q e =
     ∙ ap (λ (u : Bool). eqb all full && u) here
     ∙ sym (and_assoc (eqb all full) (eqb x full) rest)
     ∙ ap (λ (u : Bool). u && rest) (sym (full_and full all x ha hx))
+
+-- the same of the bytes of a page from a place on
+pub eight_joined_at : (l : List ℕ) (t : Bool) (full all x i j : ℕ) → all ≤ full → x ≤ full
+    → t ≡ (eqb all full && is_erased (drop i l)) → is_erased (drop i l) ≡ (eqb x full && is_erased (drop j l))
+    → t ≡ (eqb (bit_and all x) full && is_erased (drop j l))
+eight_joined_at l t full all x i j ha hx e q =
+    e
+    ∙ ap (λ (u : Bool). eqb all full && u) q
+    ∙ sym (and_assoc (eqb all full) (eqb x full) (is_erased (drop j l)))
+    ∙ ap (λ (u : Bool). u && is_erased (drop j l)) (sym (full_and full all x ha hx))
 
 -- where it is known whether the byte at a place is FF, the bytes after it decide, or nothing
 pub byte_passed : (t b : Bool) (l : List ℕ) (i : ℕ) → i < length l → t ≡ is_erased (drop i l) → eqb (get_or l i 0) 255 ≡ b

@@ -109,7 +109,8 @@ fn is_none(pair: Pair<'_>) -> bool
     lacks_spare(pair.right) || table::status_of(pair).state == State::S0
 }
 
-// Whether the pages are at a line.
+// Whether the pages are at a line. The line is known, so its row's two words say it; only line 0
+// needs the whole look-up.
 pub fn is_at(pair: Pair<'_>, wanted: State) -> bool
     ensures { result
         ≡ meets wanted (status_of pair.entry.left.now pair.entry.right.now).state }
@@ -117,12 +118,11 @@ pub fn is_at(pair: Pair<'_>, wanted: State) -> bool
     if wanted == State::S0 {
         return is_none(pair);
     }
-    table::status_of(pair).state == wanted
+    has_words(pair, wanted)
 }
 
 // Whether the pages are at the line at which image cells are programmed, from the live side. It is
-// `is_at` of that line with the row known, so that its two words say it: what nearly every step of a
-// save asks.
+// `is_at` of that line with the row known: what nearly every step of a save asks.
 pub fn is_clean(pair: Pair<'_>, live: Option<Side>) -> bool
     ensures { result
         ≡ meets (clean live)

@@ -25,6 +25,14 @@ pub struct Line<'a> {
     pub comment: &'a [u8],
 }
 
+// A line as a script is gone over: without its comment, for which only what prints a line has to look.
+#[derive(Clone, Copy)]
+struct Passed<'a> {
+    number: u64,
+    at: usize,
+    words: &'a [u8],
+}
+
 // The lines of a script that are not passed yet: where the next begins, and how many were passed.
 #[derive(Drop)]
 struct Lines<'a> {
@@ -37,10 +45,10 @@ struct Lines<'a> {
 // said how far the run is.
 #[derive(Clone, Copy)]
 pub struct Listing {
-    number: u64,
+    pub number: u64,
     // A plain yes or no of the line before, with nothing else to say of it.
-    heading: bool,
-    due: u64,
+    pub heading: bool,
+    pub due: u64,
 }
 
 // ---- lines
@@ -60,18 +68,37 @@ fn comment_in(line: &[u8]) -> &[u8] {
     }
 }
 
-impl<'a> Line<'a> {
+impl<'a> Passed<'a> {
     // The line that begins at a place of a text, with its number.
-    fn new(text: &'a [u8], at: usize, number: u64) -> Line<'a> {
+    fn new(text: &'a [u8], at: usize, number: u64) -> Passed<'a> {
+        Passed {
+            number,
+            at,
+            words: texts::line_at(text, at),
+        }
+    }
+
+    fn has_call(self) -> bool {
+        !self.words.is_empty()
+    }
+
+    // The line with its comment.
+    fn whole(self, text: &'a [u8]) -> Line<'a>
+        ensures place { result.at ≡ self.entry.at }
+        ensures words { result.words.now ≡ self.entry.words.now }
+    {
+        let Passed { number, at, words } = self;
         let whole = text.get(at..texts::next_line(text, at)).unwrap_or(b"");
         Line {
             number,
             at,
-            words: texts::line_at(text, at),
+            words,
             comment: comment_in(whole),
         }
     }
+}
 
+impl Line<'_> {
     fn has_call(&self) -> bool {
         !self.words.is_empty()
     }
@@ -93,16 +120,16 @@ impl<'a> Lines<'a> {
 }
 
 impl<'a> Iterator for Lines<'a> {
-    type Item = Line<'a>;
+    type Item = Passed<'a>;
 
     ghost remaining = { λ lines. at_most (length lines.text.now - lines.at) };
 
-    fn next(&mut self) -> Option<Line<'a>> {
+    fn next(&mut self) -> Option<Passed<'a>> {
         if self.text.len() <= self.at {
             return None;
         }
         self.passed = self.passed.wrapping_add(1);
-        let line = Line::new(self.text, self.at, self.passed);
+        let line = Passed::new(self.text, self.at, self.passed);
         self.at = texts::next_line(self.text, self.at);
         Some(line)
     }
@@ -117,16 +144,18 @@ pub fn calls_in(text: &[u8]) -> usize {
 pub fn line_at(text: &[u8], place: usize) -> Option<Line<'_>>
     ensures { IfSome result (λ line. line.at ≡ place) }
 {
-    Lines::new(text).find(|line| line.at == place)
+    let found = Lines::new(text).find(|line| line.at == place)?;
+    Some(found.whole(text))
 }
 
 // The last line of a script that asks for a format.
 pub fn last_format(text: &[u8]) -> Option<Line<'_>>
     ensures { IfSome result (λ line. asks_of line.words.now ≡ format) }
 {
-    Lines::new(text)
+    let found = Lines::new(text)
         .filter(|line| matches!(asks::parse(line.words), Ok(Some(Call::Format))))
-        .last()
+        .last()?;
+    Some(found.whole(text))
 }
 
 // ---- what is wrong
@@ -172,17 +201,20 @@ impl fmt::Display for Error<'_> {
 
 // Whether each line of a script is right and one of them has a call.
 pub fn check(script: Name, text: &[u8]) -> Result<(), Error<'_>> {
+    let mut has_call = false;
     for line in Lines::new(text) {
         asks::parse(line.words).map_err(|wrong| Error::Line {
             script,
-            line,
+            line: line.whole(text),
             wrong,
         })?;
+        has_call |= line.has_call();
     }
-    if calls_in(text) == 0 {
-        return Err(Error::NoCall { script });
+    if has_call {
+        Ok(())
+    } else {
+        Err(Error::NoCall { script })
     }
-    Ok(())
 }
 
 // ---- what is printed
@@ -190,9 +222,11 @@ impl fmt::Display for Line<'_> {
     // The call of a line with its number, tabs as blanks, and its comment, if it has one.
     fn fmt<W: fmt::Write>(&self, f: &mut fmt::Formatter<W>) -> fmt::Result {
         write!(f, "script line {}: ", self.number)?;
-        for byte in self.words {
-            let shown = if *byte == b'\t' { b' ' } else { *byte };
-            write!(f, "{}", Escaped(&[shown]))?;
+        for (i, part) in self.words.split(|byte| *byte == b'\t').enumerate() {
+            if i != 0 {
+                f.write_str(" ")?;
+            }
+            write!(f, "{}", Escaped(part))?;
         }
         if !self.comment.is_empty() {
             write!(f, "  {}", Escaped(self.comment))?;
@@ -220,7 +254,7 @@ impl Listing {
     // line unless it goes on with one.
     pub fn print_next(&mut self, out: &mut Output, text: &[u8], at: usize) -> fmt::Result {
         self.count(out.runtime());
-        let line = Line::new(text, at, self.number);
+        let line = Passed::new(text, at, self.number).whole(text);
         let goes_on = self.heading;
         self.heading = line.is_heading();
         if line.has_call() {

@@ -314,12 +314,14 @@ impl Source {
         }
     }
 
-    // Two files that an argument and the next name, with a script, if there is one, that another names.
+    // Two files that an argument and the next name, with a script, if there is one, that another names. Where
+    // there is none the program's own name, argument 0, is looked at in its place.
     pub fn files(rt: HostRuntime, at: usize, script: Option<usize>) -> Result<Source, Error> {
         let argument = |at: usize| Argument { rt, at };
         let left = argument(at);
         let right = argument(at.wrapping_add(1));
-        arguments::check_names(&[Some(left), Some(right), script.map(argument)])?;
+        let third = argument(script.unwrap_or(0));
+        arguments::check_names(&[Some(left), Some(right), Some(third)])?;
         Ok(Source::Files {
             left: Name::Argument(left),
             right: Name::Argument(right),
@@ -327,11 +329,13 @@ impl Source {
     }
 
     // Two parts of one file that an argument names, with LEFT-AT, RIGHT-AT and LENGTH behind it, and with a
-    // script, if there is one, that another names.
+    // script, if there is one, that another names. The program's own name, argument 0, is looked at in place of
+    // a second file, and of a script where there is none.
     pub fn parts(rt: HostRuntime, at: usize, script: Option<usize>) -> Result<Source, Error> {
         let argument = |at: usize| Argument { rt, at };
         let file = argument(at);
-        arguments::check_names(&[Some(file), script.map(argument)])?;
+        let third = argument(script.unwrap_or(0));
+        arguments::check_names(&[Some(file), Some(argument(0)), Some(third)])?;
         let left_at = argument(at.wrapping_add(1)).number("LEFT-AT")?;
         let right_at = argument(at.wrapping_add(2)).number("RIGHT-AT")?;
         let length = argument(at.wrapping_add(3)).number("LENGTH")?;

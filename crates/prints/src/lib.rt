@@ -5,19 +5,25 @@
 // and by `flush`. A write that fails is passed over.
 #![tactic(auto)]
 
-ghost use Rattle.std.specs.Prelude.{◌≡◌, ◌≤◌, ℕ, List, [], take, Some};
+ghost use Rattle.std.specs.Prelude.{◌≡◌, ◌≤◌, ℕ, List, [], ◌∷◌, take, Some, IsTrue, MatchOption};
 ghost use Rattle.std.specs.List.{flat_map};
 ghost use Rattle.prints.specs.Prints.{gathered_after, escaped, dotted};
 
-use std::fmt;
 use std::marker::Model;
 use std::time::CpuClock;
+use std::{fmt, str};
 
 // The version of the project, which include/fretgalaxy.h has too.
 pub const VERSION: &str = "0.6.0";
 
 // How many bytes are written in one piece at most.
 const SIZE: usize = 65533;
+
+// How many bytes from outside are printed in one piece at most.
+const PART: usize = 64;
+
+// How many bytes from outside are too few to be looked at for that.
+const FEW: usize = 3;
 
 // What a program prints to, and what is gathered for it. Memory is fixed, so the bytes gathered are the
 // first `len` of a buffer.
@@ -106,9 +112,45 @@ impl fmt::Display for EscapedByte {
         let b = self.0;
         match b {
             b'\\' => write!(f, "\\\\"),
-            b' '..=b'~' => write!(f, "{}", char::from(b)),
+            b' '..=b'~' => f.write_char(char::from(b)),
             _ => write!(f, "\\x{b:02X}"),
         }
+    }
+}
+
+// Whether a byte is printed as it is by `Escaped`.
+fn is_plain(b: u8) -> bool
+    ensures { IsTrue result → escaped b ≡ b ∷ [] }
+{
+    matches!(b, b' '..=b'~') && b != b'\\'
+}
+
+// Bytes as the text that `Escaped` prints, where that is the bytes as they are.
+fn plain_text(bytes: &[u8]) -> Option<&str>
+    ensures { MatchOption result (Unit {0}) (λ text. text.now ≡ flat_map escaped bytes.now) }
+{
+    if FEW < bytes.len() && bytes.iter().all(|b| is_plain(*b)) {
+        str::from_utf8(bytes).ok()
+    } else {
+        None
+    }
+}
+
+// A few bytes of an `Escaped`, which are printed in one piece where each is printed as it is.
+#[derive(Clone, Copy)]
+struct EscapedPart<'a>(&'a [u8]);
+
+impl fmt::Display for EscapedPart<'_> {
+    ghost output = { λ e. Some (flat_map escaped e.0.now) };
+
+    fn fmt<W: fmt::Write>(&self, f: &mut fmt::Formatter<W>) -> fmt::Result {
+        if let Some(text) = plain_text(self.0) {
+            return f.write_str(text);
+        }
+        for b in self.0 {
+            write!(f, "{}", EscapedByte(*b))?;
+        }
+        Ok(())
     }
 }
 
@@ -120,8 +162,8 @@ impl fmt::Display for Escaped<'_> {
     ghost output = { λ e. Some (flat_map escaped e.0.now) };
 
     fn fmt<W: fmt::Write>(&self, f: &mut fmt::Formatter<W>) -> fmt::Result {
-        for b in self.0 {
-            write!(f, "{}", EscapedByte(*b))?;
+        for part in self.0.chunks(PART) {
+            fmt::Display::fmt(&EscapedPart(part), f)?;
         }
         Ok(())
     }

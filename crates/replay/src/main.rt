@@ -8,6 +8,7 @@ ghost use Rattle.std.specs.Prelude.{◌≤◌};
 use answers::Steps;
 use arguments::{Argument, Name, Word};
 use loads::Source;
+use pages::Pair;
 use prints::Output;
 use std::fmt;
 use std::fmt::Write;
@@ -137,19 +138,16 @@ fn load_script(rt: HostRuntime, script: Name, room: &mut [u8]) -> Result<&[u8], 
     Ok(text)
 }
 
-// Loads the pages and the script, and runs it on the pages.
-fn replay<'a>(
+// Loads the script, and runs it on the pages.
+fn run_script<'a>(
     out: &mut Output,
     lines: Lines,
     files: Files,
+    pair: Pair<'_>,
     room: &'a mut [u8],
 ) -> Result<(), Error<'a>> {
-    let rt = out.runtime();
     let Files { source, script } = files;
-    let mut left_room = loads::page_buffer();
-    let mut right_room = loads::page_buffer();
-    let pair = source.load(rt, &mut left_room, &mut right_room)?;
-    let text = load_script(rt, script, room)?;
+    let text = load_script(out.runtime(), script, room)?;
     match lines {
         Lines::Calls(steps) => {
             let _ = write!(out, "{source}\nP = {}", pair.left.len());
@@ -159,6 +157,31 @@ fn replay<'a>(
             cuts::run(out, source, text, pair).ok_or(Error::NoWalk(script))?;
         }
     }
+    Ok(())
+}
+
+fn print_error(out: &mut Output, error: Error<'_>) {
+    let _ = writeln!(out, "failed: {error}");
+}
+
+// Runs the script in a room of its own, or prints what is wrong, of which the script may be a part. It is
+// never put where it is called: what else the program does would owe the room as well.
+#[inline(never)]
+fn run_in_room(out: &mut Output, lines: Lines, files: Files, pair: Pair<'_>) {
+    let mut room = [0; ROOM];
+    if let Err(error) = run_script(out, lines, files, pair, &mut room) {
+        print_error(out, error);
+    }
+}
+
+// Loads the pages, and runs the script on them.
+fn replay(out: &mut Output, lines: Lines, files: Files) -> Result<(), loads::Error> {
+    let mut left_room = loads::page_buffer();
+    let mut right_room = loads::page_buffer();
+    let pair = files
+        .source
+        .load(out.runtime(), &mut left_room, &mut right_room)?;
+    run_in_room(out, lines, files, pair);
     Ok(())
 }
 
@@ -193,25 +216,23 @@ fn print_help(out: &mut Output) -> fmt::Result {
 }
 
 // What is printed goes to an `Output`, which never fails, so its results are passed over.
-fn run<'a>(out: &mut Output, room: &'a mut [u8]) -> Result<(), Error<'a>> {
+fn run<'a>(out: &mut Output) -> Result<(), Error<'a>> {
     match Task::from_arguments(out.runtime())? {
         Task::Help => {
             let _ = print_help(out);
-            Ok(())
         }
         Task::Version => {
             let _ = arguments::print_version(out);
-            Ok(())
         }
-        Task::Replay(lines, files) => replay(out, lines, files, room),
+        Task::Replay(lines, files) => replay(out, lines, files)?,
     }
+    Ok(())
 }
 
 fn main(rt: HostRuntime) {
     let mut out = Output::new(rt);
-    let mut room = [0; ROOM];
-    if let Err(error) = run(&mut out, &mut room) {
-        let _ = writeln!(out, "failed: {error}");
+    if let Err(error) = run(&mut out) {
+        print_error(&mut out, error);
     }
     out.flush();
 }

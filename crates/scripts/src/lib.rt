@@ -17,7 +17,7 @@ ghost use Rattle.scripts.specs.Scripts.{
 use pages::PageOffset;
 
 // How many bytes a call takes, not counting those of its own.
-const HEAD_SIZE: usize = 9;
+pub const HEAD_SIZE: usize = 9;
 
 // The kinds of calls, by their numbers in the layout. `item_of` alone matches them and gives the call, so no
 // enum of kinds stands between.

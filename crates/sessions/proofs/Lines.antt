@@ -31,7 +31,7 @@ pub step_data : (text : List ℕ) (place : ℕ) → asks_of (line_at text place)
 step_data text place e = fits (line_at text place) (handed (line_at text place) T.step_with e)
 
 -- past the end of a text there is no line, and so no data
-no_line : (text : List ℕ) (place : ℕ) → length text ≤ place → [] ≡ line_at text place
+pub no_line : (text : List ℕ) (place : ℕ) → length text ≤ place → [] ≡ line_at text place
 unfolding line_at before_first without_comment without_return used
 no_line text place h =
     sym

@@ -12,7 +12,7 @@ use plans::{ImageCell, Spot};
 use prints::{Output, VERSION};
 use std::fmt;
 use std::fmt::Write;
-use views::{InWords, Rows};
+use views::{Hex, InWords, Rows};
 use walks::Walk;
 
 // ---- what is wrong
@@ -361,19 +361,6 @@ impl<T: fmt::Display> fmt::Display for OrNull<T> {
     }
 }
 
-// Bytes, two digits each.
-#[derive(Clone, Copy)]
-struct Hex<'a>(&'a [u8]);
-
-impl fmt::Display for Hex<'_> {
-    fn fmt<W: fmt::Write>(&self, f: &mut fmt::Formatter<W>) -> fmt::Result {
-        for byte in self.0 {
-            write!(f, "{byte:02X}")?;
-        }
-        Ok(())
-    }
-}
-
 // A page, and where it comes from.
 #[derive(Clone, Copy)]
 struct JsonPage<'a> {
@@ -384,14 +371,17 @@ struct JsonPage<'a> {
 impl fmt::Display for JsonPage<'_> {
     fn fmt<W: fmt::Write>(&self, f: &mut fmt::Formatter<W>) -> fmt::Result {
         let JsonPage { origin, page } = *self;
+        let image = Hex {
+            bytes: image_of(page),
+            parted: false,
+        };
         write!(
             f,
-            "{{\"file\": {}, \"from\": {}, \"word\": \"{:08X}\", \"erased\": {}, \"image\": \"{}\"}}",
+            "{{\"file\": {}, \"from\": {}, \"word\": \"{:08X}\", \"erased\": {}, \"image\": \"{image}\"}}",
             Quoted(origin.name),
             origin.from.unwrap_or(0),
             pages::word(page),
-            flash::erased(page),
-            Hex(image_of(page))
+            flash::erased(page)
         )
     }
 }

@@ -11,7 +11,7 @@ ghost use Rattle.views.specs.Views.{event_of, event_name, shown_text, tally_text
 use pages::{ImageOffset, Pair, Status};
 use plans::{Entry, Request, Spot};
 use prints::Printable;
-use std::fmt;
+use std::{fmt, str};
 use steps::Step;
 use verdicts::{Tally, Verdict};
 use walks::Walk;
@@ -193,6 +193,42 @@ impl fmt::Display for CutTally {
         let start = if tally.has_another() { "failed" } else { "ok" };
         let unit = if cuts == 1 { "cut" } else { "cuts" };
         write!(f, "{start}: {cuts} {unit}, {}", InWords(tally))
+    }
+}
+
+// ---- bytes
+// A hexadecimal digit.
+fn digit(value: u8) -> u8 {
+    b"0123456789ABCDEF"[usize::from(value % 16)]
+}
+
+// Bytes in hexadecimal, two digits each.
+#[derive(Clone, Copy)]
+pub struct Hex<'a> {
+    pub bytes: &'a [u8],
+    // A plain yes or no: whether a blank stands before each.
+    pub parted: bool,
+}
+
+impl fmt::Display for Hex<'_> {
+    // The digits are handed on for some bytes together: byte by byte that takes several times as long.
+    fn fmt<W: fmt::Write>(&self, f: &mut fmt::Formatter<W>) -> fmt::Result {
+        for part in self.bytes.chunks(ROW) {
+            let mut text = [0u8; 3 * ROW];
+            let mut end = 0;
+            for byte in part {
+                for shown in [b' ', digit(*byte / 16), digit(*byte)] {
+                    if self.parted || shown != b' ' {
+                        if let Some(place) = text.get_mut(end) {
+                            *place = shown;
+                            end += 1;
+                        }
+                    }
+                }
+            }
+            f.write_str(str::from_utf8(text.get(..end).unwrap_or(b"")).unwrap_or(""))?;
+        }
+        Ok(())
     }
 }
 

@@ -189,7 +189,9 @@ impl Start<'_> {
 }
 
 // Makes a script, and prints the last save or format in it that is begun and its cuts, or nothing where
-// there is none. Pages that differ in length, or are longer than any page, have no calls.
+// there is none. Pages that differ in length, or are longer than any page, have no calls. It is never put
+// where it is called, so that nothing else needs the room of its pages.
+#[inline(never)]
 pub fn run(out: &mut Output, source: Source, text: &[u8], pair: Pair<'_>) -> Option<Tally>
     ensures tally { unwrap_or result no_cuts
         ≡ script_tally text.now pair.entry.left.now pair.entry.right.now }

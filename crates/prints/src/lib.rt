@@ -5,8 +5,10 @@
 // and by `flush`. A write that fails is passed over.
 #![tactic(auto)]
 
-ghost use Rattle.std.specs.Prelude.{◌≡◌, ◌≤◌, ℕ, List, [], ◌∷◌, take, Some, IsTrue, MatchOption};
+ghost use Rattle.std.specs.Prelude.{◌≡◌, ◌<◌, ◌≤◌, ℕ, List, [], ◌∷◌, length, take, true, Some, IsTrue, MatchOption};
+ghost use Rattle.std.specs.Fmt.{digit_glyph};
 ghost use Rattle.std.specs.List.{flat_map};
+ghost use Rattle.std.specs.Result.{IsOk};
 ghost use Rattle.prints.specs.Prints.{gathered_after, escaped, dotted};
 
 use std::marker::Model;
@@ -22,8 +24,11 @@ const SIZE: usize = 65533;
 // How many bytes from outside are printed in one piece at most.
 const PART: usize = 64;
 
-// How many bytes from outside are too few to be looked at for that.
-const FEW: usize = 3;
+// How many bytes one from outside is printed as at most.
+const WIDTH: usize = 4;
+
+// How many bytes such a piece is printed as at most.
+const ROOM: usize = WIDTH * PART;
 
 // What a program prints to, and what is gathered for it. Memory is fixed, so the bytes gathered are the
 // first `len` of a buffer.
@@ -93,29 +98,51 @@ impl Output {
 }
 
 impl fmt::Write for Output {
-    fn write_str(&mut self, s: &str) -> fmt::Result {
+    ghost write_str_gives = { λ old text new. new ≡ gathered_after old text };
+
+    fn write_str(&mut self, s: &str) -> fmt::Result
+        ensures ends_well { IsOk result }
+        ensures gathers { self.new ≡ gathered_after self.old s.now }
+    {
         self.bytes(s.as_bytes());
         Ok(())
     }
 }
 
 // ---- bytes from outside
-// A byte as `Escaped` prints it.
-#[derive(Clone, Copy)]
-struct EscapedByte(u8);
+// A digit of a number in hexadecimal.
+fn hex_digit(n: u8) -> u8
+    requires { n < 16 }
+    ensures { result ≡ digit_glyph true n }
+{
+    if n < 10 { b'0' + n } else { b'A' + (n - 10) }
+}
 
-impl fmt::Display for EscapedByte {
-    ghost output = { λ e. Some (escaped e.0) };
-
-    #[tactic(auto, using(std::proofs::lemmas::Fmt::hex_byte))]
-    fn fmt<W: fmt::Write>(&self, f: &mut fmt::Formatter<W>) -> fmt::Result {
-        let b = self.0;
-        match b {
-            b'\\' => write!(f, "\\\\"),
-            b' '..=b'~' => f.write_char(char::from(b)),
-            _ => write!(f, "\\x{b:02X}"),
-        }
+// A byte as `Escaped` prints it: the first of these bytes, and how many.
+fn escaped_byte(b: u8) -> ([u8; WIDTH], usize)
+    ensures fits { result.1 ≤ 4 }
+    ensures text { take result.1 result.0 ≡ escaped b }
+{
+    match b {
+        b'\\' => ([b'\\', b'\\', 0, 0], 2),
+        b' '..=b'~' => ([b, 0, 0, 0], 1),
+        _ => ([b'\\', b'x', hex_digit(b / 16), hex_digit(b % 16)], 4),
     }
+}
+
+// Puts bytes as `Escaped` prints them in a room, and says how many they are there.
+fn escape(bytes: &[u8], room: &mut [u8; ROOM]) -> usize
+    requires { length bytes.now ≤ 64 }
+    ensures fits { result ≤ 256 }
+    ensures text { take result room.new ≡ flat_map escaped bytes.now }
+{
+    let mut len = 0;
+    for b in bytes {
+        let (shown, count) = escaped_byte(*b);
+        room[len..len + WIDTH].copy_from_slice(&shown);
+        len += count;
+    }
+    len
 }
 
 // Whether a byte is printed as it is by `Escaped`.
@@ -129,29 +156,26 @@ fn is_plain(b: u8) -> bool
 fn plain_text(bytes: &[u8]) -> Option<&str>
     ensures { MatchOption result (Unit {0}) (λ text. text.now ≡ flat_map escaped bytes.now) }
 {
-    if FEW < bytes.len() && bytes.iter().all(|b| is_plain(*b)) {
+    if bytes.iter().all(|b| is_plain(*b)) {
         str::from_utf8(bytes).ok()
     } else {
         None
     }
 }
 
-// A few bytes of an `Escaped`, which are printed in one piece where each is printed as it is.
-#[derive(Clone, Copy)]
-struct EscapedPart<'a>(&'a [u8]);
-
-impl fmt::Display for EscapedPart<'_> {
-    ghost output = { λ e. Some (flat_map escaped e.0.now) };
-
-    fn fmt<W: fmt::Write>(&self, f: &mut fmt::Formatter<W>) -> fmt::Result {
-        if let Some(text) = plain_text(self.0) {
-            return f.write_str(text);
-        }
-        for b in self.0 {
-            write!(f, "{}", EscapedByte(*b))?;
-        }
-        Ok(())
+// A few bytes as the text that `Escaped` prints, which is put in a room unless it is the bytes as they are.
+fn part_text<'a>(part: &'a [u8], room: &'a mut [u8; ROOM]) -> &'a str
+    requires { length part.now ≤ 64 }
+    ensures { result.now ≡ flat_map escaped part.now }
+{
+    if let Some(text) = plain_text(part) {
+        return text;
     }
+    let len = escape(part, room);
+    let Ok(text) = str::from_utf8(&room[..len]) else {
+        unreachable!();
+    };
+    text
 }
 
 // Bytes that are printed with `\\` for a backslash and `\xHH` for each that isn't printable ASCII.
@@ -162,8 +186,9 @@ impl fmt::Display for Escaped<'_> {
     ghost output = { λ e. Some (flat_map escaped e.0.now) };
 
     fn fmt<W: fmt::Write>(&self, f: &mut fmt::Formatter<W>) -> fmt::Result {
+        let mut room = [0; ROOM];
         for part in self.0.chunks(PART) {
-            fmt::Display::fmt(&EscapedPart(part), f)?;
+            f.write_str(part_text(part, &mut room))?;
         }
         Ok(())
     }

@@ -165,7 +165,7 @@ fn print_error(out: &mut Output, error: Error<'_>) {
 }
 
 // Runs the script in a room of its own, or prints what is wrong, of which the script may be a part. It is
-// never put where it is called: what else the program does would owe the room as well.
+// never put where it is called, so that nothing else needs the room of the script.
 #[inline(never)]
 fn run_in_room(out: &mut Output, lines: Lines, files: Files, pair: Pair<'_>) {
     let mut room = [0; ROOM];
@@ -174,7 +174,9 @@ fn run_in_room(out: &mut Output, lines: Lines, files: Files, pair: Pair<'_>) {
     }
 }
 
-// Loads the pages, and runs the script on them.
+// Loads the pages, and runs the script on them. It is never put where it is called, so that nothing else
+// needs the room of the pages.
+#[inline(never)]
 fn replay(out: &mut Output, lines: Lines, files: Files) -> Result<(), loads::Error> {
     let mut left_room = loads::page_buffer();
     let mut right_room = loads::page_buffer();

@@ -19,7 +19,9 @@ use walks::Walk;
 // Makes the calls of a script whose lines are right on copies of the pages, and prints the pages at
 // first, each call with its answer, and how often a read showed what. It begins with the end of the
 // line of P. The walk that is in hand in the end is handed back. Pages that differ in length, or are
-// longer than any page, have no calls.
+// longer than any page, have no calls. It is never put where it is called, so that nothing else needs the
+// room of its pages.
+#[inline(never)]
 pub fn run(out: &mut Output, text: &[u8], pair: Pair<'_>, steps: Steps) -> Option<Walk>
     ensures { result ≡ ends_with text.now pair.entry.left.now pair.entry.right.now }
 {

@@ -12,8 +12,9 @@ loop-part-preserved g c =
     let steps = c.in-Some.ensures.steps in (
       search rules,
       tt,
+      steps.0 ∙ c.loop-part.invariant.2,
       λ plain.
-          let so_far = c.loop-part.invariant.2 plain in (
+          let so_far = c.loop-part.invariant.3 plain in (
             so_far.0 ++ flat_map escaped c.in-Some.part.now,
             has_written_append _ _ _ _ _ _ so_far.1 (search rules),
             append_assoc so_far.0 _ _

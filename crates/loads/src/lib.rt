@@ -255,8 +255,9 @@ fn keep(bytes: &[u8], at: usize, start: u32, part: &mut [u8]) {
 }
 
 // Reads a file up to the end of the later part or its own, keeps both parts of it, and gives how many
-// bytes were read.
+// bytes were read. It is never put where it is called, so that nothing else needs the room of its chunk.
 // Here and below both buffers, lent for writing, go side by side, as `pages::Pair` says.
+#[inline(never)]
 fn fill_parts(
     file: &mut Opened,
     parts: Parts,
